@@ -45,7 +45,7 @@ DATE, TIME = (1980, 1, 1, 0, 0, 0), 315532800
 SOURCES = [
     *["LICENSE", "pyproject.toml", "python/README.md", "python/backend.py", "python/build.py"],
     *["python/nanorand/*.py", "python/nanorand/*.pyi", "python/nanorand/py.typed", "python/native/*.[ch]"],
-    *["c/include/*.h", "c/include/*.hpp", "c/install", "c/nanorand.map", "c/nanorand.pc.in"],
+    *["c/include/*.h", "c/include/*.hpp", "c/install", "c/nanorand*"],
     *[f"rust/{crate}/src/**/*.rs" for crate in ("lots", "nanorand-c", "nanorand-proved")],
 ]
 WHEEL = """\

@@ -121,6 +121,19 @@ c_programs() {
     check 'the example is its text' "$(diff "$root/c/deck.out" c/examples/deck.out)"
 }
 
+# The example in C++ over the unpacked archive, by CMake.
+cmake_program() {
+    if ! available cmake cmake || ! available c++ g++; then
+        skip 'a program by CMake' 'there is no cmake or no c++'
+        return
+    fi
+    mkdir "$work/cmake"
+    cp c/examples/CMakeLists.txt "$root/c/shuffle.cpp" "$work/cmake"
+    cmake -S "$work/cmake" -B "$work/cmake/build" "-DCMAKE_PREFIX_PATH=$root" >"$work/log" 2>&1 &&
+        cmake --build "$work/cmake/build" >>"$work/log" 2>&1 || tail -n 5 "$work/log"
+    prints 'the example, by CMake' "$(cat c/examples/shuffle.out)" "$work/cmake/build/shuffle"
+}
+
 rust_program() {
     mkdir -p "$work/program/src"
     cat >"$work/program/Cargo.toml" <<END
@@ -200,6 +213,7 @@ table_of_files
 sources
 shared_library
 c_programs
+cmake_program
 rust_program
 python_program
 page

@@ -39,7 +39,7 @@ FAILURES = {
     9: rb"lots: this is no record of format 2\n",
     10: rb"lots: the record names another announcement, or none\n",
     11: rb"lots: the record is (not that of a draw from this list|that of a draw from another list)\n",
-    12: rb"lots: the announcement is not that of a draw of so many entrants from this list\n",
+    12: rb"lots: the announcement does not fit this list and the number of entrants drawn\n",
 }
 NOT_ANNOUNCED = (12, b"", FAILURES[12].replace(rb"\n", b"\n"))
 

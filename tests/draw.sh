@@ -117,7 +117,7 @@ every_number() {
     )"
 }
 
-# Replaces this shell by the program, with more than 2^17 requests and then these. A shell that has held so many
+# Replaces this shell by the program, with more than 2^17 requests and then these. A shell that has held that many
 # arguments is slow to start other programs.
 run_many() {
     local words

@@ -69,7 +69,7 @@ empty_sum=e3b0c44298fc1c149afbf4c8996fb92427ae41e4649b934ca495991b7852b855
 agrees='the record agrees with the list; no announcement was compared\n'
 agrees_too='the record agrees with the list, and names the announcement\n'
 other_list='lots: the record is that of a draw from another list\n'
-unannounced='lots: the announcement is not that of a draw of so many entrants from this list\n'
+unannounced='lots: the announcement does not fit this list and the number of entrants drawn\n'
 
 # The texts of the announcement of the example: the occasion, and those that stand after the numbers.
 occasion='Summer raffle of the school'

@@ -1,9 +1,10 @@
 #!/usr/bin/env bash
 # Tests the Rust packages as a registry would hold them: tests/packed.sh. The last line is N passed, M failed.
 #
-# It packs each package, unpacks it into a folder of its own, and runs its tests there. No package sees this repository:
-# they get each other from a folder that stands in for the registry. The crates of others in it are Debian's. The only
-# warning that packing may give is that a manifest names no repository.
+# It packs each package, unpacks it into a folder of its own, and runs its tests there, with the oldest compiler that the
+# packages support if it is there. No package sees this repository: they get each other from a folder that stands in for
+# the registry. The crates of others in it are Debian's. The only warning that packing may give is that a manifest names
+# no repository.
 # shellcheck source=tests/lib.sh
 source "$(dirname "${BASH_SOURCE[0]}")/lib.sh"
 shelf=$work/registry
@@ -30,12 +31,12 @@ put_into_the_registry() {
     done
 }
 
-# Runs the tests of the unpacked package $1.
+# Runs the tests of the unpacked package $1, with further arguments of cargo.
 tests_alone() {
     local folder
     folder=$(compgen -G "$shelf/$1-[0-9]*" | grep -E "/$1-[0-9.]+$")
     step cp -r "$folder" "$work/alone" || return
-    cargo_tests cargo test "${from_registry[@]}" --manifest-path "$work/alone/Cargo.toml" "${@:2}"
+    cargo_tests "${oldest[@]}" test "${from_registry[@]}" --manifest-path "$work/alone/Cargo.toml" "${@:2}"
     rm -rf "$work/alone"
 }
 
@@ -54,14 +55,23 @@ crates_of_others() {
 if [ "$(cargo --version | sed -nE 's/^cargo 1\.([0-9]+)\..*/\1/p')" -lt 90 ]; then
     skip_all 'the packed packages' 'cargo packs those that depend on each other from 1.90 on'
 fi
+version=$(sed -n 's/^rust-version = "\(.*\)"$/\1/p' Cargo.toml)
+if is_version "$version" "$oldest_bin/rustc"; then
+    oldest=(env "RUSTC=$oldest_bin/rustc" "RUSTDOC=$oldest_bin/rustdoc" "$oldest_bin/cargo")
+else
+    skip "rustc $version, the oldest that Cargo.toml names" "$oldest_bin has none"
+    oldest=(cargo)
+fi
 mkdir "$shelf"
 step grep -qx 'publish = false' rust/nanorand-c/Cargo.toml
 step packs --offline --workspace --exclude nanorand-answers
 step put_into_the_registry
-for name in nanorand-proved nanorand-program lots draw; do
-    tests_alone "$name"
-done
+# Both are skipped because they are slow without optimization: the sweeps, and the lists of all sizes of the programs.
+tests_alone nanorand-proved -- --skip sweeps::
 tests_alone nanorand-proved --no-default-features -- --skip sweeps::
+for name in nanorand-program lots draw; do
+    tests_alone "$name" -- --skip all_
+done
 if crates_of_others getrandom-0.2. zeroize-1.; then
     # The name of the drop-in's package is that of the crate which it replaces.
     outside_the_workspace nanorand-drop-in nanorand

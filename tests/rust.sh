@@ -84,7 +84,7 @@ adapter_from_a_clone() {
     cargo new --quiet --vcs none "$program" && mkdir "$program/.cargo" || return
     printf '[source.crates-io]\nreplace-with = "debian"\n[source.debian]\ndirectory = "%s"\n' "$registry" \
         >"$program/.cargo/config.toml"
-    sed -n 's/^\$ //p' "$page" | sed "s|URL|file://$work/clone|" >"$program/commands"
+    sed -n '/^## /q; s/^\$ //p' "$page" | sed "s|URL|file://$work/clone|" >"$program/commands"
     awk '/^```/ { if (inside) exit; inside = $0 == "```rust"; next } inside' "$page" >"$program/src/main.rs"
     grep -q nanorand-proved-rand-core "$program/commands" && grep -q RngCore "$program/src/main.rs" &&
         (cd "$program" && bash -e commands && cargo run --quiet)

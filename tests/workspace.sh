@@ -5,6 +5,8 @@
 source "$(dirname "${BASH_SOURCE[0]}")/lib.sh"
 library=rust/nanorand-proved
 programs=(-p nanorand-program -p lots -p draw)
+# With several units, rustc compiles inline functions in each of them, which takes a third more time.
+export CARGO_PROFILE_RELEASE_CODEGEN_UNITS=1
 oldest=$(sed -n 's/^rust-version = "\(.*\)"$/\1/p' Cargo.toml)
 
 # The library's version, oldest compiler and license are those in its documents, and it has no dependency.
@@ -179,13 +181,11 @@ all_covered() {
     fi
 }
 
-# Tests all packages with the oldest compiler, without the sweeps, and compiles the programs for each target whose std
-# is there.
+# Compares the table of answers with the oldest compiler, and compiles the programs for each target whose std is there.
+# tests/packed.sh runs the tests of the packages with this compiler.
 by_the_oldest() {
     local words=(env "RUSTC=$oldest_bin/rustc" "RUSTDOC=$oldest_bin/rustdoc" "$oldest_bin/cargo") std target
-    cargo_tests "${words[@]}" test --offline -p nanorand-proved -p nanorand-answers --target-dir target/oldest -- \
-        --skip sweeps::
-    cargo_tests "${words[@]}" test --offline "${programs[@]}" --target-dir target/oldest -- --skip all_
+    cargo_tests "${words[@]}" test --offline -p nanorand-answers --target-dir target/oldest
     for std in "${oldest_bin%/bin}"/lib/rustlib/*/lib/libstd-*.rlib; do
         target=${std#*/lib/rustlib/}
         step "${words[@]}" check --offline "${programs[@]}" --target-dir target/oldest --target "${target%%/*}"

@@ -58,17 +58,20 @@ def copy(source: Path, target: Path) -> None:
 
 
 def fill(source: Path, target: Path) -> None:
-    """Copies a text, in which the version replaces @VERSION@."""
+    """Copies a text, in which the version replaces @VERSION@, and its first number @MAJOR@."""
     copy(source, target)
-    target.write_text(target.read_text(encoding="utf-8").replace("@VERSION@", backend.VERSION), encoding="utf-8")
+    text = target.read_text(encoding="utf-8").replace("@VERSION@", backend.VERSION)
+    target.write_text(text.replace("@MAJOR@", backend.VERSION.split(".")[0]), encoding="utf-8")
 
 
 def put_c(root: Path) -> None:
-    """Both libraries, the headers, the pkg-config file and the examples."""
+    """Both libraries, the headers, the files for pkg-config and CMake, and the examples."""
     for name in ["nanorand.h", "nanorand.hpp"]:
         copy(TOP / "c/include" / name, root / "include" / name)
     copy(LIBRARY, root / "lib/libnanorand.a")
     fill(TOP / "c/nanorand.pc.in", root / "lib/pkgconfig/nanorand.pc")
+    copy(TOP / "c/nanorand-config.cmake", root / "lib/cmake/nanorand/nanorand-config.cmake")
+    fill(TOP / "c/nanorand-config-version.cmake.in", root / "lib/cmake/nanorand/nanorand-config-version.cmake")
     for name in ["deck.c", "deck.out", "shuffle.cpp", "shuffle.out"]:
         copy(TOP / "c/examples" / name, root / "c" / name)
     run("cc", "-shared", "-nostdlib", "-s", "-o", str(root / "lib/libnanorand.so.1"),

@@ -9,6 +9,8 @@ Rust package: in the same module, with the same name and, after the rules of `to
 All other differences, and what Rust has besides the proved items, are listed in `rust/departures.toml`, with a reason
 and with digests of both sides, so that a change on either side is noticed.
 
+The methods of `trait Rng` in Rust are compared with those of `dyn AnyRng`, which has a call for each of them.
+
 `const fn` in Rust is allowed where Rattle has `fn`. The comparison ignores white space, comments, docs, trailing
 commas, braces around the only expression of a match arm, labels of loops that no `break` or `continue` names, the order
 of items in a file, and the attributes that `entries.IGNORED` names.
@@ -41,6 +43,12 @@ WITHOUT_COUNTERPART = ("lib.rt", "laws.rt")
 
 # What to do with an item that only Rust has.
 CURE = "run tools/bodies.py --write, and write its reason"
+
+# The calls of a generator: the trait, the type that has the same methods, and which methods it lacks. The generator
+# itself implements `rand`, and `as_any` only lends one as an `AnyRng`.
+CALLS = "rust/nanorand-proved/src/rand.rs", "trait Rng"
+DYN_CALLS = "rust/nanorand-proved/src/layer/dyn_calls.rs", "impl dyn AnyRng + '_"
+NO_DYN_CALLS = {"rand", "as_any"}
 
 # How many tokens a message shows before the first one that differs, and in total.
 BEFORE, SHOWN = 2, 7
@@ -115,8 +123,29 @@ def compared(tree):
         for name in tree:
             if name.startswith(f"{package.folder}/") and name not in modules:
                 check_file(report, tree, name)
+    compare_calls(report, tree)
     check_list(report)
     return report
+
+
+def compare_calls(report, tree):
+    """Compares the names of the methods of `Rng` with those of `dyn AnyRng`."""
+    try:
+        calls, dyn_calls = methods_of(tree, *CALLS), methods_of(tree, *DYN_CALLS)
+    except Unreadable as unreadable:
+        report.differences.append(str(unreadable))
+        return
+    lacks = (CALLS, DYN_CALLS, dyn_calls - calls), (DYN_CALLS, CALLS, calls - dyn_calls - NO_DYN_CALLS)
+    for (file, owner), (other_file, other), missing in lacks:
+        for name in sorted(missing):
+            report.differs(file, 1, f"{owner}: it lacks the method {name} of {other} in {other_file}")
+    report.passed += len(calls & dyn_calls)
+
+
+def methods_of(tree, file, owner):
+    """The names of the methods of a trait or an implementation in a Rust file."""
+    names = (entry.name.partition(f"{owner}: fn ") for entry in rust_entries(tree.get(file, ""), file))
+    return {method for before, found, method in names if found and not before}
 
 
 def modules_of(tree, package):

@@ -15,6 +15,7 @@ and definitions of each file with the file's sum in tools/contracts.sums, so tha
 import hashlib
 import re
 import sys
+from functools import cache
 from html import escape, unescape
 from pathlib import Path
 
@@ -55,16 +56,19 @@ class Entry:
 
 
 class Book:
-    """The entries by anchor and by file, the words of each file, and the words that nothing defines."""
+    """The entries by anchor and by file, those of code by name, the words of each file, and the words that nothing
+    defines."""
 
     def __init__(self):
-        self.chapters, self.entries, self.words, self.names, self.missing = {}, {}, {}, {}, []
+        self.chapters, self.entries, self.code, self.words, self.names, self.missing = {}, {}, {}, {}, {}, []
 
     def add(self, entry):
         while entry.anchor in self.entries:
             entry.anchor += "_"
         self.entries[entry.anchor] = entry
         self.chapters.setdefault(entry.file, []).append(entry)
+        if entry.file.suffix == ".rt":
+            self.code.setdefault(WORD.findall(entry.title)[-1], []).append(entry)
 
 
 def anchor_of(*parts):
@@ -227,9 +231,7 @@ def cited(book, name):
     path, _, clauses = unescape(name).partition(": ")
     *owner, word = path.split("::")
     wanted = [f"ensures {one} " for one in clauses.split(", ") if one]
-    code = [one for one in book.entries.values() if one.file.suffix == ".rt"]
-    named = [one for one in code if WORD.findall(one.title)[-1] == word]
-    named = [one for one in named if set(owner) <= set(re.split(r"[._]", one.anchor))]
+    named = [one for one in book.code.get(word, []) if set(owner) <= set(re.split(r"[._]", one.anchor))]
     named = [one for one in named if all(part in one.text for part in wanted)] or named
     return f'<a href="#{named[0].anchor}"><code>{name}</code></a>' if len(named) == 1 else f"<code>{name}</code>"
 
@@ -259,6 +261,7 @@ def article(book, entry):
     return f'<article id="{entry.anchor}"><h4>{escape(entry.title)}</h4>{inside}</article>'
 
 
+@cache
 def chapter(book, path):
     title = path.relative_to(ROOT / "crates").as_posix() if path.suffix != ".md" else "Promises"
     articles = "\n".join(article(book, entry) for entry in book.chapters[path])

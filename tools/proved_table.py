@@ -61,7 +61,8 @@ def departures(report):
 
 def items_by_hand(report):
     rows = [(place(row), row.get("reason")) for row in report.listed.of("hand_written") if row.get("item")]
-    text = f"{len(rows)} items."
+    inside = sum(report.counts[file, "hand_written"] for file in report.modules)
+    text = f"{len(rows)} items, of which {inside} are in the files of the table of modules."
     return rows_of("Hand-written items", text, ("Item", "What it is"), rows)
 
 

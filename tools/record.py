@@ -6,7 +6,7 @@
 
 - docs/PAGE.md: the record that the web page docs/nanorand.html makes of the example in docs/LOTS.md, and an
   announcement of this draw. The example's list, seed and drawn lines are those in LOTS, which tests/second_opinion.py
-  draws again.
+  draws again. Also the SHA-256 of both modules of the page.
 - docs/RAFFLE.md and CHANGELOG.md: the SHA-256 of the web page. In the changelog it is the first one, that of the newest
   version.
 - pyproject.toml: the repository's address, which its owner fills in in Cargo.toml.
@@ -30,9 +30,9 @@ def sha256(data: bytes) -> str:
     return hashlib.sha256(data).hexdigest()
 
 
-def module_digest() -> str:
-    """The SHA-256 of the page's module for 64-bit memory."""
-    code = re.search(r'<script type="text/plain" id="module">([^<]*)</script>', PAGE.read_text(encoding="utf-8"))[1]
+def module_digest(name: str) -> str:
+    """The SHA-256 of a module of the page: `module` for 64-bit memory, or `module32`."""
+    code = re.search(rf'<script type="text/plain" id="{name}">([^<]*)</script>', PAGE.read_text(encoding="utf-8"))[1]
     return sha256(base64.b64decode(code))
 
 
@@ -76,7 +76,7 @@ def record() -> str:
         f"list SHA-256: {sha256(entrants.encode())}",
         f"entrants: {len(entrants.splitlines())}",
         f"drawn: {len(names)}",
-        f"module SHA-256: {module_digest()}",
+        f"module SHA-256: {module_digest('module')}",
         f"result SHA-256: {sha256(drawn.encode())}",
         *(f'{number}: "{name}"' for number, name in enumerate(names, 1)),
         "end of the record",
@@ -94,6 +94,8 @@ def parts() -> "list[tuple[str, str, str]]":
     return [
         ("docs/PAGE.md", r"(?ms)(?<=^```\n)nanorand public draw 2\n.*?(?=^```$)", record()),
         ("docs/PAGE.md", r"(?ms)(?<=^```\n)nanorand announcement 1\n.*?(?=^```$)", announcement()),
+        ("docs/PAGE.md", r"(?m)^[0-9a-f]{64}(?=  64-bit memory$)", module_digest("module")),
+        ("docs/PAGE.md", r"(?m)^[0-9a-f]{64}(?=  32-bit memory$)", module_digest("module32")),
         ("docs/RAFFLE.md", r"(?m)^[0-9a-f]{64}(?=  nanorand\.html$)", page),
         ("CHANGELOG.md", r"(?<=The SHA-256 of `docs/nanorand\.html`: `)[0-9a-f]{64}", page),
         ("pyproject.toml", r'(?m)(?<=^Repository = ").*(?="$)', address()),

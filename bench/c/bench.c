@@ -234,6 +234,37 @@ static void shuffles_called(void)
     sum = items[0] + refused;
 }
 
+/* Items as large as two numbers, and of a size that the library has no code of its own for. */
+#define SHUFFLES_OF(NAME, SIZE)                                                                        \
+    static struct NAME {                                                                               \
+        uint8_t bytes[SIZE];                                                                           \
+    } NAME##s[ITEMS];                                                                                  \
+    static void NAME##s_inline(void)                                                                   \
+    {                                                                                                  \
+        uint64_t seed = 42;                                                                            \
+        for (int turn = 0; turn < SHUFFLES; turn++) {                                                  \
+            for (size_t place = 0; place < ITEMS; place++) {                                           \
+                const size_t other = place + inline_below(&seed, ITEMS - place);                       \
+                const struct NAME item = NAME##s[place];                                               \
+                NAME##s[place] = NAME##s[other];                                                       \
+                NAME##s[other] = item;                                                                 \
+            }                                                                                          \
+        }                                                                                              \
+        sum = NAME##s[0].bytes[0];                                                                     \
+    }                                                                                                  \
+    static void NAME##s_called(void)                                                                   \
+    {                                                                                                  \
+        nanorand_wyrand rng = nanorand_wyrand_new_seed(42);                                            \
+        uint64_t refused = 0;                                                                          \
+        for (int turn = 0; turn < SHUFFLES; turn++) {                                                  \
+            refused += nanorand_wyrand_shuffle_items(&rng, NAME##s, ITEMS, sizeof NAME##s[0]);         \
+        }                                                                                              \
+        sum = NAME##s[0].bytes[0] + refused;                                                           \
+    }
+
+SHUFFLES_OF(pair, 16)
+SHUFFLES_OF(triple, 24)
+
 #ifdef SODIUM
 static void streams_of_sodium(void)
 {
@@ -292,6 +323,10 @@ int main(void)
     measure("fill_bytes, a byte", "called", fills_called, (double)FILLS * BYTES);
     measure("shuffle, an item", "inline", shuffles_inline, (double)SHUFFLES * ITEMS);
     measure("shuffle, an item", "called", shuffles_called, (double)SHUFFLES * ITEMS);
+    measure("items of 16 bytes", "inline", pairs_inline, (double)SHUFFLES * ITEMS);
+    measure("items of 16 bytes", "called", pairs_called, (double)SHUFFLES * ITEMS);
+    measure("items of 24 bytes", "inline", triples_inline, (double)SHUFFLES * ITEMS);
+    measure("items of 24 bytes", "called", triples_called, (double)SHUFFLES * ITEMS);
 #ifdef SODIUM
     if (sodium_init() < 0) {
         return 1;

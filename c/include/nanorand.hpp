@@ -9,8 +9,9 @@
 /// A generator is a value: a copy draws the same numbers again. It is a UniformRandomBitGenerator: std::shuffle,
 /// std::sample and the distributions of <random> accept it, and what they compute from it depends on the standard
 /// library. The members of the classes below return the same numbers everywhere, which are those of C and of the other
-/// languages (but Rust draws `range` of types below 64 bits otherwise, except that of unsigned 32 bits). Threads need
-/// no lock if each has its own generator; they must not use one at the same time.
+/// languages (except that Rust draws different numbers from a `range` of a type of fewer than 64 bits, unless the type
+/// is unsigned and has 32 bits). Threads need no lock if each has its own generator; two threads must not use one
+/// generator at the same time.
 ///
 /// There is no default constructor: a program that forgets the seed would draw the same numbers in each run, and nobody
 /// would notice. Nothing here asks the operating system for a seed; std::random_device does.
@@ -48,7 +49,8 @@ namespace nanorand {
 /// The version of the interface, as in the symbols of C: so two versions can be linked into one program.
 inline namespace v1 {
 
-/// There is nothing to draw: a range is empty, a bound or a container is, or a sample is larger than its population.
+/// There is nothing to draw: a range or a container is empty, a bound is 0 or negative, or a sample is larger than its
+/// population.
 /// Nothing was drawn. `what()` says which of these.
 class empty_range : public std::invalid_argument {
 public:
@@ -297,8 +299,9 @@ public:
     template <typename Container>
     void choose(const Container&& items) = delete; // an item of a temporary would dangle: give the container a name
 
-    /// Shuffles the items between two random access iterators, by Fisher-Yates. Draws and orders as `shuffle` of C does
-    /// for as many items. Items are swapped, so they need not be copyable.
+    /// Shuffles the items between two random access iterators, by Fisher-Yates. Draws the same words and
+    /// makes the same order as `shuffle` of C for the same number of items. Items are swapped, so they need not be
+    /// copyable.
     ///
     /// Throws `exhausted` after 128 rejected words, and what a swap throws. The swaps before that stay. So after
     /// `exhausted` every item is still there, in another order.
@@ -316,8 +319,8 @@ public:
         }
     }
 
-    /// Shuffles an array, or a container with random access, by Fisher-Yates. Draws and orders as `shuffle` of C does
-    /// for as many items. Items are swapped, so they need not be copyable.
+    /// Shuffles an array, or a container with random access, by Fisher-Yates. Draws the same words and makes the
+    /// same order as `shuffle` of C for the same number of items. Items are swapped, so they need not be copyable.
     ///
     /// Throws `exhausted` after 128 rejected words, and what a swap throws. The swaps before that stay. So after
     /// `exhausted` every item is still there, in another order.
@@ -331,7 +334,7 @@ public:
     /// They can be indices of your items. Their order is not uniform: shuffle them if it matters. Throws `empty_range`
     /// if more numbers are wanted than the population has, and `exhausted` after 128 rejected words.
     ///
-    /// It allocates memory for 4 * wanted numbers. If there is not so much, it throws what std::vector throws,
+    /// It allocates memory for 4 * wanted numbers. If there is not enough, it throws what std::vector throws,
     /// std::bad_alloc or std::length_error, before anything is drawn.
     [[nodiscard]] std::vector<std::size_t> sample(std::size_t population, std::size_t wanted)
     {
@@ -522,10 +525,10 @@ public:
     Keystream() = delete; // a seed is needed, such as Keystream rng(42): without one, each run would draw the same
 
     /// Skips this many draws of 8 bytes, in constant time.
-    void discard(std::uint64_t draws) noexcept { *this = part(1, draws); } // the period has more than twice 2^64
+    void discard(std::uint64_t draws) noexcept { *this = part(1, draws); } // the keystream has 2^67 draws
 };
 
-/// The same numbers as those of Keystream, computed one block at a time: has 120 bytes in place of 568.
+/// The same numbers as those of Keystream, computed one block at a time. An object has 120 bytes, in place of 568.
 class Stream : public detail::keyed<Stream, detail::stream> {
 public:
     using keyed::keyed;
@@ -581,7 +584,7 @@ private:
 /// drawn. Throws `error` if the seed is empty or not valid UTF-8 (NANORAND_LOTS_BAD_SEED), if more places are wanted
 /// than there are (NANORAND_LOTS_TOO_FEW), or after 128 rejected words (NANORAND_LOTS_EXHAUSTED).
 ///
-/// It allocates memory for `population` places. If there is not so much, it throws what std::vector throws,
+/// It allocates memory for `population` places. If there is not enough, it throws what std::vector throws,
 /// std::bad_alloc or std::length_error, before anything is drawn.
 [[nodiscard]] inline std::vector<std::size_t> draw(std::string_view seed, std::size_t population, std::size_t wanted)
 {

@@ -31,6 +31,8 @@ installed_files() {
     cat >"$work/wanted" <<'END'
 include/nanorand.h 644 
 include/nanorand.hpp 644 
+lib/cmake/nanorand/nanorand-config-version.cmake 644 
+lib/cmake/nanorand/nanorand-config.cmake 644 
 lib/libnanorand.a 644 
 lib/libnanorand.so 777 libnanorand.so.1
 lib/libnanorand.so.1 644 
@@ -41,6 +43,8 @@ END
     check 'the header of C++' "$(cmp c/include/nanorand.hpp "$root/include/nanorand.hpp" 2>&1)"
     check 'the file for pkg-config' \
         "$(grep -v '^Version: ' "$root/lib/pkgconfig/nanorand.pc" | diff - <(grep -v '^Version: ' c/nanorand.pc.in))"
+    check 'the file for CMake' \
+        "$(cmp c/nanorand-config.cmake "$root/lib/cmake/nanorand/nanorand-config.cmake" 2>&1)"
 }
 
 # The symbols in nm's lines, without the version of the interface.
@@ -137,8 +141,26 @@ by_cmake() {
     check "CMake: ${*:2}" "$(env -u LD_LIBRARY_PATH "$1/build/shuffle" 2>&1 | diff - c/examples/shuffle.out)"
 }
 
+# Fails if CMake accepts the version $2 of the library for the project in the folder $1.
+refuses_version() {
+    rm -rf "$1/build"
+    sed -i "s/find_package(nanorand 1.0 /find_package(nanorand $2 /" "$1/CMakeLists.txt"
+    check "CMake: version $2" \
+        "$(cmake -S "$1" -B "$1/build" "-DCMAKE_PREFIX_PATH=$root" >/dev/null 2>&1 && echo 'it is accepted')"
+    sed -i "s/find_package(nanorand $2 /find_package(nanorand 1.0 /" "$1/CMakeLists.txt"
+}
+
+# The program of the project in the folder $1, installed as c/README.md says, finds the shared library.
+installed_by_cmake() {
+    echo 'install(TARGETS shuffle)' >>"$1/CMakeLists.txt"
+    by_cmake "$1" "-DCMAKE_PREFIX_PATH=$root" -DCMAKE_INSTALL_RPATH_USE_LINK_PATH=ON
+    cmake --install "$1/build" --prefix "$work/with cmake" >"$work/errors" 2>&1 || cat "$work/errors"
+    check 'CMake: an installed program' \
+        "$(env -u LD_LIBRARY_PATH "$work/with cmake/bin/shuffle" 2>&1 | diff - c/examples/shuffle.out)"
+}
+
 # A program in C++, with the flags of pkg-config alone, and the same program by CMake: as c/README.md says it, the folder
-# is in PKG_CONFIG_PATH or is named, and the library is shared or static.
+# is in CMAKE_PREFIX_PATH or PKG_CONFIG_PATH, and the library is static or shared.
 programs_in_cpp() {
     local flags
     if ! available c++ g++; then
@@ -154,12 +176,16 @@ programs_in_cpp() {
     fi
     mkdir "$work/cmake"
     cp c/examples/{CMakeLists.txt,shuffle.cpp} "$work/cmake"
-    by_cmake "$work/cmake"
-    (unset PKG_CONFIG_PATH && by_cmake "$work/cmake" "-DCMAKE_PREFIX_PATH=$root")
-    sed -i '/^target_link_libraries/d' "$work/cmake/CMakeLists.txt"
-    sed -n '/^target_include_directories/,/^```/p' c/README.md | sed '$d' >>"$work/cmake/CMakeLists.txt"
-    by_cmake "$work/cmake" -Wno-dev
+    by_cmake "$work/cmake" "-DCMAKE_PREFIX_PATH=$root"
     check 'the static library by CMake' "$(readelf -d "$work/cmake/build/shuffle" | grep libnanorand)"
+    refuses_version "$work/cmake" 1.99
+    refuses_version "$work/cmake" 2
+    sed -i 's/nanorand::static/nanorand::shared/' "$work/cmake/CMakeLists.txt"
+    (export CMAKE_PREFIX_PATH=$root && by_cmake "$work/cmake")
+    installed_by_cmake "$work/cmake"
+    sed -i '/nanorand 1.0\|nanorand::shared/d' "$work/cmake/CMakeLists.txt"
+    sed -n '/^find_package(PkgConfig/,/^```/p' c/README.md | sed '$d' >>"$work/cmake/CMakeLists.txt"
+    by_cmake "$work/cmake"
 }
 
 # The shared library by Python's ctypes.
@@ -208,7 +234,8 @@ another_folder() {
 # Installing over another release replaces every file and the link.
 over_an_older_one() {
     local file
-    for file in include/nanorand.h{,pp} lib/libnanorand.{a,so.1} lib/pkgconfig/nanorand.pc; do
+    for file in include/nanorand.h{,pp} lib/libnanorand.{a,so.1} lib/pkgconfig/nanorand.pc \
+        lib/cmake/nanorand/nanorand-config{,-version}.cmake; do
         echo older >"$root/$file"
     done
     ln -sf libnanorand.so.0 "$root/lib/libnanorand.so"
@@ -224,9 +251,10 @@ compiler_with_options() {
     check 'CC has to be there' "$(install_from . PREFIX="$work/options" CC='no_such_cc -pipe' >/dev/null && echo 'no error')"
 }
 
-# If a tool fails, nothing is installed.
+# If a tool fails, nothing is installed, nor if there are arguments, such as --prefix.
 failures() {
     local tool
+    check 'an argument' "$(PREFIX=$work/nothing c/install --prefix="$work/nothing" >/dev/null 2>&1 && echo 'it is ignored')"
     for tool in rustc objcopy cc; do
         mv "$work/bin/$tool" "$work/tool"
         ln -s "$(command -v false)" "$work/bin/$tool"

@@ -42,7 +42,8 @@ class Programs(unittest.TestCase):
             Path(name).write_text(text, encoding="utf-8")
 
     def test_all_are_tested(self):
-        self.assertEqual(list(PROGRAMS), ["pi.py", "pi_dask.py", "pi_mpi.py", "pi_array.py", "normals.py"])
+        tested = ["pi.py", "pi_dask.py", "floats_dask.py", "pi_mpi.py", "pi_array.py", "normals.py"]
+        self.assertEqual(list(PROGRAMS), tested)
 
     def test_plain(self):
         pi = runpy.run_path("pi.py")
@@ -53,6 +54,17 @@ class Programs(unittest.TestCase):
     @unittest.skipUnless(module("distributed"), "there is no Dask")
     def test_dask(self):
         self.assertEqual(output(sys.executable, "pi_dask.py"), f"{PRINTED}\n")
+
+    @unittest.skipUnless(module("distributed"), "there is no Dask")
+    def test_arrays_of_dask(self):
+        """The numbers are those of one generator, whatever the size of the chunks."""
+        [mean] = re.findall(r"This prints ([\d.]+),", README)
+        self.assertEqual(output(sys.executable, "floats_dask.py"), f"{mean}\n")
+        program = runpy.run_path("floats_dask.py")
+        wanted = array.array("d", bytes(8 * program["LENGTH"]))
+        Pcg64.seed_from_u64(program["SEED"]).fill_random(wanted)
+        for length in 250_000, 333_333, 10**6, 2 * 10**6:
+            self.assertEqual(program["floats"](length).compute().tobytes(), wanted.tobytes())
 
     @unittest.skipUnless(module("mpi4py"), "there is no mpi4py")
     def test_mpi(self):

@@ -235,10 +235,15 @@ PyObject *number_of_halves(uint64_t high, uint64_t low)
 
 PyObject *take_octets(const char *name, PyObject *value)
 {
+    return take_octets_or(name, value, "bytes");
+}
+
+PyObject *take_octets_or(const char *name, PyObject *value, const char *wanted)
+{
     if (PyBytes_Check(value) || PyByteArray_Check(value) || PyMemoryView_Check(value)) {
         return PyBytes_FromObject(value);
     }
-    PyErr_Format(PyExc_TypeError, "%s is a %s, not bytes", name, type_name(value));
+    PyErr_Format(PyExc_TypeError, "%s is a %s, not %s", name, type_name(value), wanted);
     return NULL;
 }
 

@@ -33,7 +33,7 @@ static int check_buffer(const Py_buffer *view, const char *formats)
     if (view->readonly) {
         PyErr_SetString(PyExc_BufferError, "buffer is read-only");
     } else if (!PyBuffer_IsContiguous(view, 'C')) {
-        PyErr_SetString(PyExc_BufferError, "buffer is not contiguous");
+        PyErr_SetString(PyExc_BufferError, "buffer is not C-contiguous");
     } else if (!fits_formats(view, formats)) {
         PyErr_Format(PyExc_TypeError, "buffer has items of the format '%.100s', not one of '%s'", whole_format_of(view),
                      formats);
@@ -390,7 +390,7 @@ PyDoc_STRVAR(fill_doc,
 "TypeError\n"
 "    If the items are of another kind. Nothing was drawn.\n"
 "BufferError\n"
-"    If the memory is read-only or not contiguous. Nothing was drawn.\n"
+"    If the memory is read-only or not C-contiguous. Nothing was drawn.\n"
 "\n"
 "Examples\n"
 "--------\n"
@@ -426,7 +426,7 @@ PyDoc_STRVAR(fill_range_doc,
 "TypeError\n"
 "    If the items are of another kind. Nothing was drawn.\n"
 "BufferError\n"
-"    If the memory is read-only or not contiguous. Nothing was drawn.\n"
+"    If the memory is read-only or not C-contiguous. Nothing was drawn.\n"
 "Exhausted\n"
 "    If 128 words (random integers of 64 bits, or 32 for narrower items) in a row were rejected for\n"
 "    one item. The items before it are written, and the words stay consumed.\n"
@@ -464,7 +464,7 @@ PyDoc_STRVAR(fill_random_doc,
 "TypeError\n"
 "    If the items are of another kind. Nothing was drawn.\n"
 "BufferError\n"
-"    If the memory is read-only or not contiguous. Nothing was drawn.\n"
+"    If the memory is read-only or not C-contiguous. Nothing was drawn.\n"
 "\n"
 "Examples\n"
 "--------\n"

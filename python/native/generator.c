@@ -207,7 +207,7 @@ static PyObject *octets_of_dict(const Kind *kind, PyObject *dict)
 static int load_state(Generator *rng, PyObject *value)
 {
     const Kind *kind = rng->kind;
-    PyObject *octets = PyDict_Check(value) ? octets_of_dict(kind, value) : take_octets("state", value);
+    PyObject *octets = PyDict_Check(value) ? octets_of_dict(kind, value) : take_octets_or("state", value, "bytes or a dict");
     if (octets == NULL) {
         return -1;
     }

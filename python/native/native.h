@@ -120,6 +120,8 @@ PyObject *number_of_halves(uint64_t high, uint64_t low);
 void raise_out_of_bounds(const char *name, PyObject *whole, const char *bounds);
 /* Returns a new bytes object with the contents of a bytes, bytearray or memoryview. */
 PyObject *take_octets(const char *name, PyObject *value);
+/* The same. The message of an error names the types that are wanted. */
+PyObject *take_octets_or(const char *name, PyObject *value, const char *wanted);
 int take_octets_of(const char *name, PyObject *value, size_t length, uint8_t *octets);
 
 /* ---- generator.c: the object of a generator. ---- */

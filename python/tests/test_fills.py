@@ -272,7 +272,8 @@ class Refusals(unittest.TestCase):
                 for view in (memoryview(buffer)[::2], memoryview(buffer)[::-1]):
                     before = bytes(buffer)
                     for call in every_fill(view).values():
-                        refuses(self, rng, BufferError, call)
+                        error = refuses(self, rng, BufferError, call)
+                        self.assertEqual(str(error), "buffer is not C-contiguous")
                     self.assertEqual(bytes(buffer), before)
 
     def test_items_of_another_kind(self):

@@ -232,7 +232,8 @@ class States(unittest.TestCase):
             for state in (b"", bytes(7), bytes(112)):
                 refuses(self, rng, WrongLength, lambda rng, state=state: setattr(rng, "state", state))
             for state in (None, 42, "x" * 8, [0] * 8, 1.5, array.array("B", rng.state)):
-                refuses(self, rng, TypeError, lambda rng, state=state: setattr(rng, "state", state))
+                error = refuses(self, rng, TypeError, lambda rng, state=state: setattr(rng, "state", state))
+                self.assertRegex(str(error), r"^state is a .*, not bytes or a dict$")
 
     def test_equality(self):
         self.assertEqual(WyRand(42), WyRand(42))

@@ -146,8 +146,14 @@ PLANTED = (
     ("rust/nanorand-proved/src/entropy.rs", "#[cfg(feature = \"std\")]\nuse std::io::Read;", "#[cfg(unix)]\nuse std::io::Read;"),
     (f"{CORE}/shuffles.rt", "use crate::swap::swap;", "use crate::samples::swap;"),
     (f"{DRAW}/run.rt", "use crate::text::text_of;", "use crate::text::lines_of as text_of;"),
+    # Calls of `dyn AnyRng`.
+    ("rust/nanorand-proved/src/layer/dyn_calls.rs", "pub fn alphanumeric(", "fn alphanumerical("),
+    ("rust/nanorand-proved/src/layer/dyn_calls.rs", "    /// Draws a `u32`. See [`Rng::next_u32`].\n    #[inline]\n"
+     "    pub fn next_u32(&mut self) -> u32 {\n        Rng::next_u32(&mut self.rng())\n    }\n", ""),
+    ("rust/nanorand-proved/src/layer/dyn_calls.rs", "impl dyn AnyRng + '_ {",
+     "impl dyn AnyRng + '_ {\n    pub fn as_dyn(&mut self) {}\n"),
     # Texts.
-    ("rust/nanorand-proved/src/values/range.rs", "the range contains no number", "the range has no number"),
+    ("rust/nanorand-proved/src/values/range.rs", "there is nothing to draw from", "there is nothing to draw"),
     ("rust/lots/src/error.rs", "line {field} is empty", "line {field} is blank"),
     ("rust/draw/src/error.rs", "no memory", "no more memory"),
     (f"{CORE}/choices/weighted.rt", "no item has a weight", "no item has any weight"),

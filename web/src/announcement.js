@@ -2,7 +2,7 @@
 // one text.
 
 import { textOf } from "./bytes.js";
-import { linesOfRecord, readNumber, readSum, RecordError } from "./lines.js";
+import { canGoOn, linesOfRecord, readLine, readNumber, readSum, RecordError } from "./lines.js";
 import { reasonInQuoted } from "./misquoted.js";
 import { reasonIn } from "./pasted.js";
 import { unquoted } from "./quoted.js";
@@ -42,20 +42,24 @@ function reasonInSum(text) {
   return reasonIn(text) || " It has to be 64 hexadecimal digits, with small letters.";
 }
 
+/** The kinds of values, and what joins a value that a mail program has folded. */
+const FILLED = { read: readFilled, reason: reasonInFilled, joint: " " };
+const NUMBER = { read: readNumber, reason: reasonInNumber, joint: "" };
+const SUM = { read: readSum, reason: reasonInSum, joint: "" };
+
 /** The lines between the title and the end. */
 const ANNOUNCED_LINES = [
-  { property: "occasion", name: "occasion", read: readFilled, reason: reasonInFilled },
-  { property: "list", name: "list SHA-256", read: readSum, reason: reasonInSum },
-  { property: "entrants", name: "entrants", read: readNumber, reason: reasonInNumber },
-  { property: "winners", name: "winners", read: readNumber, reason: reasonInNumber },
-  { property: "reserves", name: "reserves", read: readNumber, reason: reasonInNumber },
-  { property: "source", name: "seed source", read: readFilled, reason: reasonInFilled },
-  { property: "form", name: "seed form", read: readFilled, reason: reasonInFilled },
-  { property: "example", name: "seed example", read: readFilled, reason: reasonInFilled },
-  { property: "time", name: "time", read: readFilled, reason: reasonInFilled },
+  { property: "occasion", name: "occasion", ...FILLED },
+  { property: "list", name: "list SHA-256", ...SUM },
+  { property: "entrants", name: "entrants", ...NUMBER },
+  { property: "winners", name: "winners", ...NUMBER },
+  { property: "reserves", name: "reserves", ...NUMBER },
+  { property: "source", name: "seed source", ...FILLED },
+  { property: "form", name: "seed form", ...FILLED },
+  { property: "example", name: "seed example", ...FILLED },
+  { property: "time", name: "time", ...FILLED },
 ];
-/** The place of the line of the winners below the title, from 0. */
-const WINNERS_PLACE = ANNOUNCED_LINES.findIndex(({ property }) => property === "winners");
+const ANNOUNCED_NAMES = ANNOUNCED_LINES.map(({ name }) => name);
 
 /** @param {Announcement} announcement @returns {string} */
 export function writeAnnouncement(announcement) {
@@ -75,14 +79,9 @@ function expectLine(lines, index, wanted) {
   if (line !== wanted) throw new RecordError(index + 1, `“${wanted}” is missing.${reasonIn(line)}`);
 }
 
-/** The value of a line with a name. */
-function announcedValue(lines, index, { name, read, reason }) {
-  const line = lines[index] ?? "";
-  if (!line.startsWith(`${name}: `)) throw new RecordError(index + 1, `“${name}: ” is missing.${reasonIn(line)}`);
-  const text = line.slice(name.length + 2);
-  const value = read(text);
-  if (value === null) throw new RecordError(index + 1, `the value of “${name}” cannot be read.${reason(text)}`);
-  return value;
+/** Whether a line of a pasted text can continue the one before. @param {string|undefined} line */
+function announcementGoesOn(line) {
+  return line !== ANNOUNCEMENT_END && canGoOn(line, ANNOUNCED_NAMES);
 }
 
 /** Throws if the numbers do not fit. @param {Announcement} announcement @param {number} line of the winners, from 1 */
@@ -95,16 +94,21 @@ function checkNumbers({ entrants, winners, reserves }, line) {
 
 /**
  * Reads lines of which the announcement begins at an index, and returns it. Below it there may only be empty lines.
- * @param {string[]} lines @param {number} first @returns {Announcement}
+ * @param {string[]} lines @param {number} first
+ * @param {(line: string|undefined) => boolean} goesOn whether a line can continue the one before
+ * @returns {Announcement}
  */
-function readAnnouncedLines(lines, first) {
+function readAnnouncedLines(lines, first, goesOn) {
   expectLine(lines, first, ANNOUNCEMENT_TITLE);
   const announcement = {};
-  ANNOUNCED_LINES.forEach((form, place) => {
-    announcement[form.property] = announcedValue(lines, first + 1 + place, form);
-  });
-  checkNumbers(announcement, first + 2 + WINNERS_PLACE);
-  const end = first + 1 + ANNOUNCED_LINES.length;
+  let [end, winners] = [first + 1, 0];
+  for (const form of ANNOUNCED_LINES) {
+    if (form.property === "winners") winners = end + 1;
+    const { value, next } = readLine(lines, end, form, goesOn);
+    announcement[form.property] = value;
+    end = next;
+  }
+  checkNumbers(announcement, winners);
   expectLine(lines, end, ANNOUNCEMENT_END);
   const other = lines.findIndex((line, index) => index > end && line !== "");
   if (other >= 0) throw new RecordError(other + 1, "nothing may stand below the announcement.");
@@ -119,7 +123,7 @@ export function readAnnouncementFile(bytes) {
   const text = textOf(bytes);
   if (text === null) throw new RecordError(1, "the file is not UTF-8.");
   const lines = text.split("\n");
-  const announcement = readAnnouncedLines(lines, 0);
+  const announcement = readAnnouncedLines(lines, 0, () => false);
   if (writeAnnouncement(announcement) !== text) {
     throw new RecordError(lines.length, "the file has to end with the line feed of its last line.");
   }
@@ -127,12 +131,12 @@ export function readAnnouncementFile(bytes) {
 }
 
 /**
- * Reads a pasted text. What a mail program adds is forgiven: white space at the ends of lines, `>` marks, and empty
- * lines above and below. Compare the SHA-256 of what `writeAnnouncement` makes of it.
+ * Reads a pasted text. What a mail program does is forgiven: white space at the ends of lines, `>` marks, folded lines,
+ * and empty lines above and below. Compare the SHA-256 of what `writeAnnouncement` makes of it.
  * @param {string} text @returns {Announcement}
  */
 export function readPastedAnnouncement(text) {
   const lines = linesOfRecord(text);
   const first = lines.findIndex((line) => line !== "");
-  return readAnnouncedLines(lines, Math.max(first, 0));
+  return readAnnouncedLines(lines, Math.max(first, 0), announcementGoesOn);
 }

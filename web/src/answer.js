@@ -29,7 +29,7 @@ function uncheckedWords({ lines: [first, last], others }) {
   return `Only lines ${first} to ${last} of the text are the record. Its ${lines} not checked, and may say anything.`;
 }
 
-/** The heading above the entrants. Nobody is called a winner unless the announcement was compared. */
+/** The heading above the entrants. Nobody is called a winner unless the record agrees with its announcement. */
 function titleOfDrawn({ announcement, drawn, winners }) {
   if (winners === drawn) return "Winners";
   if (winners !== null) return `Winners (the first ${grouped(winners)}), and then reserves`;
@@ -37,10 +37,10 @@ function titleOfDrawn({ announcement, drawn, winners }) {
     : "In the order drawn: winners, and then reserves if there are any";
 }
 
-/** What was checked. @param {import("./check.js").Reading} reading */
+/** What the record says. @param {import("./check.js").Reading} reading */
 function showReading(reading) {
   const { lines: [first, last], announcement, seed, list, entrants, drawn, named } = reading;
-  say("reading-title", `What was checked, in lines ${first} to ${last} of the text:`);
+  say("reading-title", `What the record says, in lines ${first} to ${last} of the text:`);
   say("announcement-label", announcement === "none" ? "Announcement" : "SHA-256 of the announcement");
   say("reading-announcement", announcement);
   part("reading-seed").replaceChildren(...nodesOf(seed));

@@ -91,7 +91,7 @@ export function comparedWith(record, announcement) {
   const warning = seedWarning(record.seed, announcement);
   return [
     "Compared with the announcement: its SHA-256, that of its list, the number of entrants, and how many are drawn: " +
-      `${announcedWords(announcement)}. The winners are the first ${announcement.winners} of the record.`,
+      `${announcedWords(announcement)}. The first ${announcement.winners} drawn are the winners.`,
     ...(warning === "" ? [] : [{ text: warning, isWarning: true }]),
     `Only you can compare the seed with its source: ${source}. Its form: ${form}, for example ${example}.`,
     `Only you can know when the announcement of ${occasion} was published. It has to be before the seed could be ` +

@@ -26,7 +26,7 @@ import { Refusal } from "./refusal.js";
  */
 
 /**
- * What was checked: the first and last line of the record in its text, how many other lines there
+ * What the record says: its first and last line in the text, how many other lines there
  * are, the SHA-256 of its announcement or "none", what the page shows of its seed, the SHA-256 of its
  * list, its numbers and its named entrants.
  * @typedef {Object} Reading
@@ -38,7 +38,7 @@ import { Refusal } from "./refusal.js";
  * @property {number} entrants
  * @property {number} drawn
  * @property {import("./entrant.js").Shown[]} named
- * @property {?number} winners how many of these are winners, if the announcement that belongs to the record was given
+ * @property {?number} winners how many of these are winners, if the record agrees and its announcement was given
  */
 
 const TITLES = {
@@ -52,11 +52,17 @@ const TITLES = {
   "no list": "The record can be read. Open or paste its list above, and check again.",
 };
 
+/** The outcomes of a record that is that of its draw, and belongs to the announcement if one was given. */
+const AGREES = ["agrees", "other module"];
 const OTHER_LIST = "Another list:";
 const WITH_ANNOUNCEMENT = "The record agrees: the same list, the announcement that it names, and the draw repeated " +
   "here gives the same result. What only you can compare is said below.";
 const OTHER_ANNOUNCEMENT = "The draw repeated here gives the same result, but the record does not belong to this " +
   "announcement.";
+const UNANNOUNCED = {
+  text: "The record names no announcement. So nothing in it shows that the list was closed before the seed was known.",
+  isWarning: true,
+};
 const NOT_COMPARED = {
   text: "The record names an announcement, which was not compared. Paste it above or drop its file there, and check again.",
   isWarning: true,
@@ -135,8 +141,7 @@ export function check(module, maker, list, { text, announced = null }) {
   const { value: named, failed: unread } = readOr(() => announcedFrom(module, announced), "no announcement", record);
   if (unread) return unread;
   const answer = compared(module, maker, list, record, named);
-  const belongs = named !== null && differencesFrom(record, named.announcement, named.digest).length === 0;
-  if (belongs) answer.reading.winners = named.announcement.winners;
+  if (named !== null && AGREES.includes(answer.outcome)) answer.reading.winners = named.announcement.winners;
   return answer;
 }
 
@@ -155,7 +160,7 @@ function compared(module, maker, list, record, named) {
 
 /** What was compared with the announcement, or that none was. @returns {(string|Finding)[]} */
 function announcedFindings(record, named, unlike) {
-  if (named === null) return record.announcement === "none" ? [] : [NOT_COMPARED];
+  if (named === null) return [record.announcement === "none" ? UNANNOUNCED : NOT_COMPARED];
   return unlike.length > 0 ? [] : comparedWith(record, named.announcement);
 }
 

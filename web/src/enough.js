@@ -61,7 +61,7 @@ function throwsWords(needed) {
 }
 
 const MEANING = " Enough means: at least as many seeds as sets of winners, so that no set is impossible by counting. " +
-  `With exactly as many, some sets still come from no seed: take ${MORE_THROWS} throws of a die (or 5 bits) more.`;
+  `With exactly as many, some sets still come from no seed. So take at least ${MORE_THROWS} throws of a die (or 5 bits) more than that.`;
 
 /** @param {?bigint} seeds @param {bigint} sets @param {string} words */
 function verdictOf(seeds, sets, words) {

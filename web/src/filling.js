@@ -87,7 +87,7 @@ function otherLength() {
   const { form, example } = filling.filled;
   if (example === "" || part("form").value !== form) return [];
   const [found, wanted] = [part("example").value, example].map((text) => text.trim().split(/\s+/).length);
-  return found === wanted ? [] : [`The example has ${found} words between spaces, and not ${wanted}.`];
+  return found === wanted ? [] : [`The example has ${found} parts between spaces, and not ${wanted}.`];
 }
 
 /** In which ways the texts do not agree with the values of the preset, as sentences. @returns {string[]} */

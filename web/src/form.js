@@ -3,8 +3,8 @@
 import { isUnseen } from "./bytes.js";
 import { nameOf } from "./names.js";
 
-/** A word of at least this length, such as 64 hexadecimal digits, has to have the length of the example's. */
-const LONG_WORD = 16;
+/** A part of at least this length, such as 64 hexadecimal digits, has to have the length of the example's. */
+const LONG_PART = 16;
 
 /** The kind of a character. @param {string} letter */
 function kindOfLetter(letter) {
@@ -21,9 +21,9 @@ function kindsOfText(text) {
   return Array.from(new Set(Array.from(text, kindOfLetter)));
 }
 
-/** The words of a text, between spaces. @param {string} text @returns {string[]} */
-function wordsOfText(text) {
-  return text.split(" ").filter((word) => word !== "");
+/** The parts of a text, between spaces. @param {string} text @returns {string[]} */
+function partsOfText(text) {
+  return text.split(" ").filter((part) => part !== "");
 }
 
 /** Whether spaces are at the ends of a text, or two in a row. @param {string} text */
@@ -31,7 +31,7 @@ function hasLooseSpaces(text) {
   return /^ | $| {2}/.test(text);
 }
 
-/** Throws of a die: digits from 1 to 6, each a word of its own, or all in one word. */
+/** Throws of a die: digits from 1 to 6, each a part of its own, or all in one part. */
 const OF_A_DIE = /^[1-6]+$|^[1-6]( [1-6])*$/;
 
 /** The digits of a seed that no die has, as a sentence in a list, if the example has throws. */
@@ -42,29 +42,29 @@ function otherThanThrows(seed, example) {
   return [`The seed has the ${found}, which no die has; the example has only 1 to 6.`];
 }
 
-/** @param {string[]} words @returns {string} */
-function countOfWords(words) {
-  return words.length === 1 ? "1 word" : `${words.length} words`;
+/** @param {string[]} parts @returns {string} */
+function countOfParts(parts) {
+  return parts.length === 1 ? "1 part" : `${parts.length} parts`;
 }
 
 /**
- * In which ways a seed has another form than an example, as sentences: the kinds of characters, the number of words,
- * the spaces, the digits that no die has, and the lengths of long words.
+ * In which ways a seed has another form than an example, as sentences: the kinds of characters, the number of parts,
+ * the spaces, the digits that no die has, and the lengths of long parts.
  * @param {string} seed @param {string} example @returns {string[]}
  */
 export function formDifferences(seed, example) {
   const [kinds, wanted] = [seed, example].map(kindsOfText);
-  const [words, others] = [seed, example].map(wordsOfText);
+  const [parts, others] = [seed, example].map(partsOfText);
   const loose = hasLooseSpaces(seed) && !hasLooseSpaces(example);
-  const isOtherLength = words.length === others.length && others.some((other, place) =>
-    other.length >= LONG_WORD && other.length !== words[place].length);
+  const isOtherLength = parts.length === others.length && others.some((other, place) =>
+    other.length >= LONG_PART && other.length !== parts[place].length);
   return [
     ...kinds.filter((kind) => !wanted.includes(kind)).map((kind) => `The seed has ${kind}, the example has none.`),
     ...wanted.filter((kind) => !kinds.includes(kind)).map((kind) => `The seed has no ${kind}, the example has.`),
-    ...(words.length === others.length ? [] : [
-      `The seed has ${countOfWords(words)} between spaces, the example has ${countOfWords(others)}.`]),
+    ...(parts.length === others.length ? [] : [
+      `The seed has ${countOfParts(parts)} between spaces, the example has ${countOfParts(others)}.`]),
     ...(loose ? ["The seed has a space at an end or two spaces in a row, the example has not."] : []),
     ...otherThanThrows(seed, example),
-    ...(isOtherLength ? ["A word of the seed has another length than in the example."] : []),
+    ...(isOtherLength ? ["A part of the seed has another length than in the example."] : []),
   ];
 }

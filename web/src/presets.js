@@ -57,7 +57,7 @@ function throwsText(count) {
   return `${throwsSaid(count)} of a die`;
 }
 
-const FALLS = "a die that falls off the table is thrown again";
+const FALLS = "a die that falls off the table is thrown again by somebody else";
 const PRICES_TEXT = "the closing prices of [names of the prices, in order] at [exchange] on [date], as first published " +
   "by [publication]";
 

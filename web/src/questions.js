@@ -65,7 +65,8 @@ const ENCODINGS = {
   "utf-16le": UTF_16,
   "utf-16be": UTF_16,
   "windows-1252": "This file is not saved in the usual form of text, UTF-8. It seems to be in an older form of " +
-    "Windows (Windows-1252), as Excel saves CSV files.",
+    "Windows (Windows-1252), as Excel saves CSV files. Letters that this form does not have, and emoji, were saved as " +
+    "question marks: to keep them, save the list again as CSV UTF-8.",
   "unknown": new Refusal("list is no text").words,
 };
 

@@ -225,13 +225,13 @@ def forms(counts: Counts, page: Page) -> None:
     for seed, wanted in ((SEED[::-1], ""), ("", ""),
                          (SEED.replace("4", "9"), "The seed has the digit 9, which no die has; the example has only "
                           "1 to 6."),
-                         (SEED[2:], "The seed has 19 words between spaces, the example has 20 words."),
-                         (SEED.replace(" ", ""), "The seed has no spaces, the example has. The seed has 1 word between "
-                          "spaces, the example has 20 words."),
+                         (SEED[2:], "The seed has 19 parts between spaces, the example has 20 parts."),
+                         (SEED.replace(" ", ""), "The seed has no spaces, the example has. The seed has 1 part between "
+                          "spaces, the example has 20 parts."),
                          (SEED.replace("4", "x"), "The seed has small letters (a-z), the example has none.")):
         page.fill(seed)
         counts.same(f"the form of {seed!r}", seen(page, "seed-form"), [wanted and begin + wanted])
-    for seed, warning in ((SEED[2:], f"{begin}The seed has 19 words between spaces, the example has 20 words."),
+    for seed, warning in ((SEED[2:], f"{begin}The seed has 19 parts between spaces, the example has 20 parts."),
                           (SAMPLE, "The seed is the announced example.")):
         page.tab("draw")
         page.fill(seed)

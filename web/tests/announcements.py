@@ -5,6 +5,7 @@ import base64
 import math
 import random
 import re
+import textwrap
 from typing import Any, Dict, List, NamedTuple, Optional, Tuple
 
 from counts import Counts, lots, sha256
@@ -94,6 +95,18 @@ def is_quoted(value: str) -> bool:
             and quoted(bytes_of(value)) == value and is_text(bytes_of(value)))
 
 
+def is_value(number: int, value: str) -> bool:
+    """Whether this is a value of the line with this number."""
+    form = r"[0-9a-f]{64}" if number == 1 else r"0|[1-9][0-9]{0,14}"
+    return is_quoted(value) if number in TEXTS else re.fullmatch(form, value, re.A) is not None
+
+
+def announcement_of(values: List[str]) -> Optional[Announcement]:
+    """The announcement with these values, or None if its numbers do not fit."""
+    found = Announcement(*(int(value) if number in (2, 3, 4) else value for number, value in enumerate(values)))
+    return found if 1 <= found.winners and found.winners + found.reserves <= found.entrants else None
+
+
 def read(data: bytes) -> Optional[Announcement]:
     """The announcement of these bytes, or None if they are not exactly those of one."""
     if not is_text(data):
@@ -101,16 +114,27 @@ def read(data: bytes) -> Optional[Announcement]:
     lines = data.decode().split("\n")
     if len(lines) != len(NAMES) + 3 or (lines[0], lines[-2], lines[-1]) != (TITLE, END, ""):
         return None
-    values: List[Any] = []
-    for number, (name, line) in enumerate(zip(NAMES, lines[1:])):
-        value = line[len(name) + 2:]
-        form = r"[0-9a-f]{64}" if number == 1 else r"0|[1-9][0-9]{0,14}"
-        if line != f"{name}: {value}" or not (
-                is_quoted(value) if number in TEXTS else re.fullmatch(form, value, re.A) is not None):
+    values = [line[len(name) + 2:] for name, line in zip(NAMES, lines[1:])]
+    are_lines = all(line == f"{name}: {value}" for name, value, line in zip(NAMES, values, lines[1:]))
+    return announcement_of(values) if are_lines and all(is_value(*one) for one in enumerate(values)) else None
+
+
+def read_pasted(text: str) -> Optional[Announcement]:
+    """The announcement of a pasted text, whose lines a mail program may have marked and folded, or None."""
+    first, *lines = without_marks(text).split("\n")
+    values: List[str] = []
+    for number, name in enumerate(NAMES):
+        line = lines.pop(0) if lines else ""
+        if line != f"{name}:" and not line.startswith(f"{name}: "):
             return None
-        values.append(int(value) if number in (2, 3, 4) else value)
-    found = Announcement(*values)
-    return found if 1 <= found.winners and found.winners + found.reserves <= found.entrants else None
+        value = line[len(name) + 2:]
+        while not is_value(number, value):
+            line = lines.pop(0) if lines else ""
+            if line in ("", END) or re.match("[0-9]+: ", line) or line.startswith(tuple(f"{one}: " for one in NAMES)):
+                return None
+            value += (" " if number in TEXTS and value else "") + line
+        values.append(value)
+    return announcement_of(values) if (first, lines) == (TITLE, [END, ""]) else None
 
 
 def without_marks(text: str) -> str:
@@ -163,7 +187,7 @@ def some(rng: random.Random) -> Announcement:
 
 
 def texts(counts: Counts, page: Page) -> None:
-    """Files are read exactly if other code reads them; pasted texts, if they are one without the marks of mails."""
+    """Files and pasted texts are read exactly if other code reads them."""
     counts.same("the known text", EXAMPLE.text(), KNOWN)
     rng = random.Random(4)
     good = [EXAMPLE, *(some(rng) for _ in range(300))]
@@ -175,7 +199,12 @@ def texts(counts: Counts, page: Page) -> None:
     files += [with_text(number, one).text().encode() for one in no_text() for number in TEXTS]
     pasted = [one.decode() for one in files if is_text(one)]
     pasted += [re.sub("(?m)^", "> ", KNOWN), re.sub("(?m)$", " \t", KNOWN), f"\n\n{KNOWN}\n \n", f"Mallory\n{KNOWN}",
-               f"{KNOWN}Mallory\n", KNOWN.replace("source: ", "source:\n")]
+               f"{KNOWN}Mallory\n"]
+    # Folded after each name, at each space of a value, and as mail programs fold.
+    places = [match.start() for match in re.finditer(" ", KNOWN)]
+    pasted += [f"{KNOWN[:place]}\n{KNOWN[place + 1:]}" for place in places]
+    pasted += ["\n".join(textwrap.fill(line, width) for line in KNOWN.split("\n")) for width in (30, 60, 72, 76)]
+    counts.same("a folded text", read_pasted(re.sub("(?m)^", "> ", pasted[-1])), EXAMPLE)
     code = '"use strict";\n' + build.joined("announcement", set()) + READ_ALL
     found, forgiven = page.browser.run(code, [base64.b64encode(one).decode() for one in files], pasted)
     for data, text in zip(files, found):
@@ -183,8 +212,8 @@ def texts(counts: Counts, page: Page) -> None:
         right = isinstance(text, list) if wanted is None else text == data.decode() == wanted.text()
         counts.case(f"the file {data[:400]!r}", "" if right else f"{text!r}")
     for pasted_text, text in zip(pasted, forgiven):
-        wanted_text = without_marks(pasted_text)
-        right = isinstance(text, list) if read(wanted_text.encode()) is None else text == wanted_text
+        wanted = read_pasted(pasted_text)
+        right = isinstance(text, list) if wanted is None else text == wanted.text()
         counts.case(f"the pasted text {pasted_text[:400]!r}", "" if right else f"{text!r}")
 
 
@@ -210,7 +239,7 @@ def pairs_mutated(counts: Counts, page: Page, program: str, module: bytes) -> No
                       mutated(rng, KNOWN) if number % 3 != 1 else KNOWN))
     agreed = 0
     for (text, announced), (outcome, with_it, findings, _) in zip(pairs, run_checks(page, module, list(pairs))):
-        is_announced = without_marks(announced) == KNOWN
+        is_announced = read_pasted(announced) == EXAMPLE
         agrees = outcome == "agrees"
         right = (not agrees or with_it and is_announced and same_record(text, record)) and (
             agrees or not is_announced or without_marks(text) != record)
@@ -324,21 +353,21 @@ def forms(counts: Counts, page: Page) -> None:
     die = "The seed has the {}, which no die has; the example has only 1 to 6."
     lacks, words = "The seed has no {}, the example has.", "The seed has {} between spaces, the example has {}."
     cases = {
-        (SEED, SEED): [], ("1 2", "3 4"): [], ("1 2", "3 4 5"): [words.format("2 words", "3 words")],
-        ("12", "3 4"): [lacks.format("spaces"), words.format("1 word", "2 words")],
+        (SEED, SEED): [], ("1 2", "3 4"): [], ("1 2", "3 4 5"): [words.format("2 parts", "3 parts")],
+        ("12", "3 4"): [lacks.format("spaces"), words.format("1 part", "2 parts")],
         ("1 a", "3 4"): [none.format("small letters (a-z)")], ("1 A", "3 4"): [none.format("capital letters (A-Z)")],
         ("1,2", "1.2"): [none.format("“,”"), lacks.format("“.”")], ("1  2", "1 2"): [end],
         (" 1", "1"): [none.format("spaces"), end],
         ("1\u00a02", "1 2"): [none.format("U+00A0 no-break space"), lacks.format("spaces"),
-                              words.format("1 word", "2 words")],
+                              words.format("1 part", "2 parts")],
         ("\u0661", "1"): [none.format("“\u0661”"), lacks.format("digits")],
         ("\u0430", "a"): [none.format("letters beyond a-z"), lacks.format("small letters (a-z)")],
         (hexadecimal, hexadecimal[::-1]): [],
-        (hexadecimal[1:], hexadecimal): ["A word of the seed has another length than in the example."],
+        (hexadecimal[1:], hexadecimal): ["A part of the seed has another length than in the example."],
         ("7 0 9", "4 1 6"): [die.format("digits 7, 0, 9")], ("416338", "416335"): [die.format("digit 8")],
         ("8 8 1", "6 6 6"): [die.format("digit 8")], ("0", "1"): [die.format("digit 0")], ("6 5 4", "1 2 3"): [],
         ("7 0 9", "4 1 7"): [], ("7 18 39", "5 13 24"): [], ("9.1", "4.1"): [],
-        ("9 1", "4 1 6"): [words.format("2 words", "3 words"), die.format("digit 9")],
+        ("9 1", "4 1 6"): [words.format("2 parts", "3 parts"), die.format("digit 9")],
     }
     script = "return arguments[0].map(([seed, example]) => formDifferences(seed, example));"
     found = page.browser.run('"use strict";\n' + build.joined("form", set()) + script, list(cases))

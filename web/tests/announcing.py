@@ -175,7 +175,8 @@ def combined(throws: int) -> int:
 def enough(counts: Counts, page: Page) -> None:
     """The page says how many sets there are, how many bits the seed has, and whether that is enough."""
     meaning = (" Enough means: at least as many seeds as sets of winners, so that no set is impossible by counting. "
-               "With exactly as many, some sets still come from no seed: take 2 throws of a die (or 5 bits) more.")
+               "With exactly as many, some sets still come from no seed. So take at least 2 throws of a die (or 5 "
+               "bits) more than that.")
     begun(page, "".join(f"n{number}\n" for number in range(340)).encode(), winners="12", reserves="0")
     counts.same("12 of 340 in throws", seen(page, "preset-throws"), ["30"])
     sets = "12 of 340: 2^71.8 sets of winners could come."
@@ -376,7 +377,7 @@ def apart(counts: Counts, page: Page) -> None:
             f"{value} {'throw' if value == '1' else 'throws'}, 2 throws each", ""])
     of_preset(page, "die")
     put(page, example="1 2 3")
-    counts.same("a short example", seen(page, "disagreements"), ["The example has 3 words between spaces, and not 20."])
+    counts.same("a short example", seen(page, "disagreements"), ["The example has 3 parts between spaces, and not 20."])
     put(page, form="as they fall")
     counts.same("a short example of another form", seen(page, "disagreements"), [""])
 

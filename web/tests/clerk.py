@@ -183,7 +183,8 @@ def encodings(counts: Counts, page: Page) -> None:
     utf_16 = ("This file is saved in another form of text (UTF-16, which Excel calls “Unicode text”). A draw needs the "
               "usual one, UTF-8.")
     windows = ("This file is not saved in the usual form of text, UTF-8. It seems to be in an older form of Windows "
-               "(Windows-1252), as Excel saves CSV files.")
+               "(Windows-1252), as Excel saves CSV files. Letters that this form does not have, and emoji, were saved "
+               "as question marks: to keep them, save the list again as CSV UTF-8.")
     choices = ["Convert it to UTF-8", "Keep the file as it is"]
     kinds = [(name, utf_16, mark) for name in ("utf-16-le", "utf-16-be") for mark in ("\ufeff", "")]
     for name, said, marked in [*kinds, ("cp1252", windows, "")]:
@@ -479,7 +480,7 @@ def what_was_checked(counts: Counts, page: Page) -> None:
     page.check(f"Dear all,\n\n{shown['record']}\nYours\n")
     found = page.browser.run("""return ["reading-title", "reading-seed", "reading-list", "reading-count"].map((id) =>
         document.getElementById(id).innerText);""")
-    counts.same("what was checked", found, ["What was checked, in lines 3 to 23 of the text:", f'"{SEED}"',
+    counts.same("what was checked", found, ["What the record says, in lines 3 to 23 of the text:", f'"{SEED}"',
                                             sha256(LIST.encode()), "12 of 340"])
     winners = "return Array.from(document.querySelectorAll('#reading-drawn li'), (item) => item.textContent);"
     counts.same("the winners that were checked", page.browser.run(winners), shown["drawn"])

@@ -20,6 +20,8 @@ from typing import Any, Dict, List, Optional, Type
 
 # The milliseconds that a script and loading a page may take. Checking a million entrants takes long.
 TIMEOUTS = {"script": 120_000, "pageLoad": 120_000}
+# How often a window is set to a size until the page has the wanted one.
+RESIZES = 10
 ELEMENT = "element-6066-11e4-a52e-4f735466cecf"
 BACKSPACE, TAB, ENTER, SHIFT, CONTROL, SPACE = "\ue003", "\ue004", "\ue007", "\ue008", "\ue009", " "
 
@@ -292,13 +294,17 @@ class Firefox(Browser):
             self.command("Marionette:SetContext", value="content")
 
     def size(self, width: int, height: int) -> None:
-        """A window cannot be narrow, so the page is zoomed in a window of twice the width."""
+        """A window cannot be narrow, so the page is zoomed in a window of twice the width. On a busy machine the page
+        gets its new size only after a while."""
         zoom = 2 if width < 600 else 1
         self._in_firefox("gBrowser.selectedBrowser.fullZoom = arguments[0];", zoom)
-        self.command("SetWindowRect", width=width * zoom, height=height * zoom)
-        inner = self.wait("return [innerWidth, innerHeight];")
-        self.command("SetWindowRect", width=width * zoom + (width - inner[0]) * zoom,
-                     height=height * zoom + (height - inner[1]) * zoom)
+        outer = [width * zoom, height * zoom]
+        for _ in range(RESIZES):
+            self.command("SetWindowRect", width=outer[0], height=outer[1])
+            inner = self.wait("return [innerWidth, innerHeight];")
+            if inner == [width, height]:
+                break
+            outer = [one + (wanted - found) * zoom for one, wanted, found in zip(outer, (width, height), inner)]
 
     def dark(self, is_dark: bool) -> None:
         self._in_firefox(

@@ -293,7 +293,7 @@ function failedChecks() {
   }
   const few = { ...record, entrants: 3, drawn: 3, named: [utf8("Ada"), utf8("Bob"), utf8("Cid")] };
   same("more than there are", check(module, maker, list, { text: writeRecord(few) }).findings,
-    [{ text: "Cannot draw 3: the list has only 2 entrants." }]);
+    [{ text: "Cannot draw 3: the list has only 2 entrants." }, UNANNOUNCED]);
 }
 
 /** An error that is not the record's, while the record is read, is not shown as an error of the record. */

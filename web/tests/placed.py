@@ -21,6 +21,8 @@ NONE = "This file is no announcement: it does not begin with “nanorand announc
 KINDS = ("list", "record", "announcement")
 NOT_COMPARED = ("Warning: The record names an announcement, which was not compared. Paste it above or drop its file "
                 "there, and check again.")
+UNANNOUNCED = ("Warning: The record names no announcement. So nothing in it shows that the list was closed before the "
+               "seed was known.")
 DROP_ALL = """
 const [id, files] = arguments;
 const data = new DataTransfer();
@@ -264,8 +266,9 @@ def uncompared(counts: Counts, page: Page, texts: Dict[str, bytes]) -> None:
             ("differs", record.replace("Katherine", "Kate"), "", [NOT_COMPARED], reserves),
             ("other module", re.sub("module SHA-256: .*", f"module SHA-256: {'0' * 64}", record), "", [NOT_COMPARED],
              reserves),
-            ("agrees", without, "", [], plain), ("differs", without, KNOWN, [], plain),
+            ("agrees", without, "", [UNANNOUNCED], plain), ("differs", without, KNOWN, [], plain),
             ("agrees", record, KNOWN, [], compared),
+            ("differs", record.replace("Katherine", "Kate"), KNOWN, [], reserves),
             ("differs", record, KNOWN.replace("winners: 3", "winners: 2"), [], reserves)):
         put(page, check_announcement=announced)
         shown = page.check(text)

@@ -5,22 +5,27 @@
 //! - The entrants are the lines of standard input. No line may be empty.
 //!
 //! It prints the entrants drawn, one on each line, in the order in which they were drawn. The exit
-//! status is 0 on success, 2 if the arguments are not a seed and a count, 3 if there are too few
-//! entrants, 4 if a line is empty, 5 if memory runs out, 6 if a read failed, 7 if a write failed,
-//! and 8 if 128 words (random integers of 64 bits) in a row were rejected.
+//! status is 0 on success, 2 if the arguments are none of the commands on this page, 3 if there are
+//! too few entrants, 4 if a line is empty, 5 if memory runs out, 6 if a read failed, 7 if a write
+//! failed, and 8 if 128 words (random integers of 64 bits) in a row were rejected.
 //!
 //! `lots --announce OCCASION WINNERS RESERVES SOURCE FORM EXAMPLE TIME < entrants` prints an
 //! announcement, which is published before the seed is known. `lots --record SEED COUNT|all
 //! [ANNOUNCEMENT] < entrants` prints the record of the draw, which names the SHA-256 of the file
-//! ANNOUNCEMENT; the status is 12 if that is not the announcement of such a draw. `lots --check
-//! RECORD [ANNOUNCEMENT] < entrants` draws again: the status is 0 only if the file RECORD is the
-//! record of a draw from these entrants, names ANNOUNCEMENT if one is given, and ANNOUNCEMENT is
-//! that of such a draw; otherwise it is 9 if the file is no record, 11 if it names another list or is
-//! not the record of its draw from these entrants, 10 if it names another announcement, 12 if the
-//! announcement is not that of this draw, or that of the error. `lots --version` and `lots --help`
-//! print a text.
-//! A seed and a count are always a draw, even if the seed is such an option: a record whose file is
-//! named `all` or by digits is checked by `lots --check ./all`.
+//! ANNOUNCEMENT; the status is 12 if that file is not the announcement of this draw. `lots --check
+//! RECORD [ANNOUNCEMENT] < entrants` draws again, and compares. Its status is
+//!
+//! - 0 if the file RECORD is the record of a draw from these entrants; if ANNOUNCEMENT is given,
+//!   the record also has to name it, and it has to be the announcement of this draw
+//! - 9 if the file RECORD is not a record
+//! - 10 if the record names another announcement, or none
+//! - 11 if the record names another list, or is not the record of its draw from these entrants
+//! - 12 if ANNOUNCEMENT is not the announcement of this draw
+//! - otherwise that of the error, as above
+//!
+//! `lots --version` and `lots --help` print a text. A seed and a count are always a draw, even if
+//! the seed is one of these options. So to check a record in a file named `all` or by digits, write
+//! `lots --check ./all`.
 #![tactic(auto)]
 
 use lots_core::LotsError;

@@ -11,7 +11,7 @@ use nanorand::{BufferedRng, ChaCha20};
 use sha2::{Digest, Sha256};
 
 /// Returns the generator of a seed: the keystream of ChaCha20, read as little-endian words (random
-/// integers) of 64 bits. Its key is the SHA-256 of the text; its nonce and its counter are 0.
+/// integers) of 64 bits. The key is the SHA-256 of the seed; the nonce and the counter are 0.
 fn words_of(seed: &str) -> BufferedRng<ChaCha20, 64>
     ensures { result ≡ start_of seed.now }
 {

@@ -35,8 +35,8 @@ pub enum LotsError {
     #[error("write failed")]
     Write,
 
-    /// 128 words (random integers of 64 bits) in a row were rejected for one place. For a place
-    /// among n entrants, this happens less than once in 2^128 draws.
+    /// 128 words (random integers of 64 bits) in a row were rejected for one place. For each place,
+    /// the probability is below 2^-128.
     #[error("128 words were rejected")]
     Exhausted,
 }

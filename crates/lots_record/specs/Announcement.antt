@@ -73,7 +73,7 @@ Announced plan list (Ok text) =
     × (string_bytes text ≡ text_of plan list (length (lines_of list)))
 Announced plan list (Err error) = IsUnannounced plan list error
 
--- No text of the plan is empty, there is a winner, and so many entrants are drawn.
+-- No text of the plan is empty, there is a winner, and winners and reserves are `count` together.
 abbrev pub Announces : Plan → ℕ → Type 0
 Announces plan count =
     (plan.occasion ≢ []) × (plan.source ≢ []) × (plan.form ≢ []) × (plan.example ≢ []) × (plan.time ≢ [])
@@ -89,8 +89,8 @@ pub record IsText (plan : Plan) : Type 0 where
   pub winners : plan.winners < 2 ^ 64
   pub reserves : plan.reserves < 2 ^ 64
 
--- A text is the announcement of a draw of so many entrants from a list: there is a plan with which it
--- is written.
+-- A text is the announcement of a draw of `count` entrants from a list: there is a plan with which
+-- it is written.
 pub record IsAnnouncement (text list : List ℕ) (count : ℕ) : Type 0 where
   pub plan : Plan
   pub is_text : IsText plan

@@ -20,7 +20,7 @@ abbrev pub given : Option (Bor (List ℕ)) → Option (List ℕ)
 given None = None
 given (Some text) = Some text.now
 
--- The announcement, if one is given, is that of a draw of so many entrants from the list.
+-- The announcement, if one is given, is that of a draw of `count` entrants from the list.
 abbrev pub IsAnnounced : Option (List ℕ) → List ℕ → ℕ → Type 0
 IsAnnounced None list count = ⊤
 IsAnnounced (Some text) list count = IsAnnouncement text list count

@@ -1,4 +1,4 @@
--- How bytes are written in quotation marks, with escapes of what is hidden.
+-- How bytes are written in quotation marks, with escapes for hidden characters.
 use Rattle.std.specs.Prelude.{◌≡◌, ◌≢◌, ◌⊎◌, ◌<◌, ℕ, ◌/◌, ◌%◌, ◌==◌, ◌&&◌, ◌||◌, nat_le, nat_lt, Bool, if◌then◌else◌, List, [], ◌∷◌, ◌++◌, codes}
 use Rattle.std.specs.Char.{digit_char, encode_utf8}
 use Rattle.std.specs.List.{flat_map, list_any}
@@ -49,7 +49,7 @@ letters_text bytes = flat_map letter_text (chars bytes)
 abbrev pub bytes_text : List ℕ → List ℕ
 bytes_text bytes = flat_map byte_text bytes
 
--- Bytes with escapes of what is hidden: by characters if they are UTF-8, or byte by byte.
+-- Bytes with escapes for hidden characters: by characters if they are UTF-8, or byte by byte.
 abbrev pub shown : List ℕ → List ℕ
 shown bytes = if is_utf8 bytes then letters_text bytes else bytes_text bytes
 

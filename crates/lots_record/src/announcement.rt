@@ -81,7 +81,7 @@ fn push_seed_lines<A: Allocator>(text: &mut String<A>, plan: &Plan<'_>) -> Resul
     push_text(text, "time: ", plan.time)
 }
 
-/// Returns the text of the announcement of a draw from a list of so many entrants.
+/// Returns the text of the announcement of a draw from a list of `entrants` entrants.
 fn text_for<'a, A: Allocator>(
     alloc: &'a A,
     plan: &Plan<'_>,
@@ -218,7 +218,8 @@ fn texts_of<'a, A: Allocator>(
     }))
 }
 
-/// Whether no text of the plan is empty, there is a winner, and so many entrants are drawn.
+/// Whether no text of the plan is empty, there is a winner, and winners and reserves are `count`
+/// together.
 fn announces(plan: &Plan<'_>, count: usize) -> bool
     ensures { Decides result (spec.Announces (spec.plan_of plan.now) count) }
 {
@@ -231,8 +232,9 @@ fn announces(plan: &Plan<'_>, count: usize) -> bool
         && plan.winners.checked_add(plan.reserves) == Some(count)
 }
 
-/// Whether the text is the announcement of a draw of so many entrants from the list, byte for byte: it
-/// reads from the text what it says, makes the announcement, and compares the two.
+/// Whether the text is, byte for byte, the announcement of a draw of `count` entrants from the
+/// list. The function reads the values from the text, writes the announcement again from these, and
+/// compares the two.
 pub fn is_announcement<A: Allocator>(
     alloc: &A,
     text: &[u8],

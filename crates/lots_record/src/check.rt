@@ -26,7 +26,7 @@ fn names<A: Allocator>(claims: &Claims<A>, announcement: Option<&[u8]>) -> bool
     }
 }
 
-/// Whether the announcement, if one is given, is that of a draw of so many entrants from the list.
+/// Whether the announcement, if one is given, is that of a draw of `count` entrants from the list.
 pub fn is_announced<A: Allocator>(
     alloc: &A,
     announcement: Option<&[u8]>,
@@ -43,14 +43,15 @@ pub fn is_announced<A: Allocator>(
     }
 }
 
-/// Checks that the text is the record of a draw from the list, byte for byte: it reads from the
-/// text what it is made from, makes the record, and compares the two. If an announcement is given,
-/// the record has to name its SHA-256, and it has to be the announcement of a draw of so many
-/// entrants from the list.
+/// Checks that the text is, byte for byte, the record of a draw from the list: the function reads
+/// from the text what a record is made from, makes the record again, and compares the two. If an
+/// announcement is given, the record has to name its SHA-256, and the announcement has to be that
+/// of a draw from the list of as many entrants as the record says.
 ///
-/// Returns the reason if it is not, and the error of the draw if the draw fails. A record of a draw
-/// from this list is refused only with `OtherAnnouncement`, if it does not name the announcement, with
-/// `NotAnnounced`, if the announcement is not that of the draw, or with `Memory`.
+/// Returns the reason if the text is not such a record, and the error of the draw if the draw
+/// fails. A true record of a draw from this list is refused only with `OtherAnnouncement` if it
+/// does not name the announcement, with `NotAnnounced` if the announcement is not that of the draw,
+/// or with `Memory`.
 pub fn check<A: Allocator>(
     alloc: &A,
     text: &[u8],

@@ -24,11 +24,11 @@ pub enum CheckError {
     #[error("the record names another announcement, or none")]
     OtherAnnouncement,
 
-    /// The announcement is not that of a draw of so many entrants from the list, as the record says.
-    #[error("the announcement is not that of a draw of so many entrants from this list")]
+    /// The announcement is not that of a draw from the list of as many entrants as are drawn.
+    #[error("the announcement does not fit this list and the number of entrants drawn")]
     NotAnnounced,
 
-    /// The record is not the one of its draw from this list.
+    /// The record is not the one that its draw from this list makes.
     #[error("the record is not that of a draw from this list")]
     Differs,
 

@@ -130,7 +130,7 @@ fn values_of(text: &[u8]) -> Values<'_>
     }
 }
 
-/// Returns the sum that 64 hexadecimal digits write.
+/// Returns the SHA-256 that 64 hexadecimal digits spell.
 fn sum_of(digits: &[u8]) -> Option<[u8; 32]>
     ensures found { (sum : List ℕ) → IsSum sum → digits.now ≡ encode_lower sum →
         result ≡ Some sum }
@@ -141,7 +141,7 @@ fn sum_of(digits: &[u8]) -> Option<[u8; 32]>
     Some(sum)
 }
 
-/// Returns the sum that a text writes, or no sum if it is `none`.
+/// Returns the SHA-256 that a text spells, or no SHA-256 (`Some(None)`) if the text is `none`.
 fn announcement_of(text: &[u8]) -> Option<Option<[u8; 32]>>
     ensures found { (sum : Option (List ℕ)) → IfSome sum IsSum → text.now ≡ sum_or_none sum →
         result ≡ Some sum }
@@ -153,7 +153,7 @@ fn announcement_of(text: &[u8]) -> Option<Option<[u8; 32]>>
     Some(Some(sum_of(text)?))
 }
 
-/// Returns the sum that a text writes, or no sum if it is empty.
+/// Returns the SHA-256 that a text spells, or no SHA-256 (`Some(None)`) if the text is empty.
 fn program_of(text: &[u8]) -> Option<Option<[u8; 32]>>
     ensures found { (sum : Option (List ℕ)) → IfSome sum IsSum →
         text.now ≡ spec.digits_of sum → result ≡ Some sum }
@@ -165,7 +165,7 @@ fn program_of(text: &[u8]) -> Option<Option<[u8; 32]>>
     Some(Some(sum_of(text)?))
 }
 
-/// Returns the number that decimal digits write, if it is below 2^64.
+/// Returns the number that decimal digits spell, if it is below 2^64.
 pub fn number_of(digits: &[u8]) -> Option<usize>
     ensures found { IfSome result (IsNumber digits.now) }
     ensures only { (n : ℕ) → IsNumber digits.now n → result ≡ Some n }

@@ -32,8 +32,8 @@ pub enum Command<'a> {
     Help,
 }
 
-/// Returns the command of the arguments. A seed and a count are a draw, whatever the seed is, and so
-/// is anything that is no other command: `lots_core::run` then returns `Usage`.
+/// Returns the command of the arguments. A seed and a count are a draw, whatever the seed is.
+/// `Draw` is also returned for arguments that are no command: `lots_core::run` then returns `Usage`.
 pub fn read_command(arguments: &[String]) -> Command<'_>
     ensures is { IsCommand (texts arguments.now) result }
     ensures draws { (asked : Asked) → AsksFor (texts arguments.now) asked → result ≡ Draw }
@@ -88,8 +88,9 @@ fn check_command(values: &[String]) -> Command<'_>
     }
 }
 
-/// Returns the command of the values after `--announce`: OCCASION WINNERS RESERVES SOURCE FORM EXAMPLE
-/// TIME. No text is empty, and there is a winner.
+/// Returns the command of the values after `--announce`: OCCASION WINNERS RESERVES SOURCE FORM
+/// EXAMPLE TIME. If a text is empty or there is no winner, this is not a command, and `Draw` is
+/// returned.
 fn announce_command(values: &[String]) -> Command<'_>
     ensures { IsCommand (codes "--announce" ∷ texts values.now) result }
 {

@@ -1,10 +1,10 @@
 //! The record of a public draw: a text that tells others everything they need to repeat the draw
 //! with the list, and the check of such a text.
 //!
-//! `record` makes the text, and `check` accepts exactly the texts that `record` makes of seeds that
-//! are not empty. The program `lots` calls `read_command` and the functions of `program`.
+//! `record` makes the text, and `check` accepts exactly the records that `record` makes from seeds
+//! that are not empty. The program `lots` calls `read_command` and the functions of `program`.
 //!
-//! `specs/Quoted.antt` defines how bytes are written, with escapes of what is hidden,
+//! `specs/Quoted.antt` defines how bytes are written, with escapes for hidden characters,
 //! `specs/Record.antt` what the text of a record is, and `specs/Command.antt` and
 //! `specs/Program.antt` what the program does with its arguments.
 #![tactic(auto)]

@@ -65,7 +65,7 @@ fn sum_of(announcement: Option<&[u8]>) -> Option<[u8; 32]>
 /// all at once, and then flushes. The record names the SHA-256 of the announcement, if there is one.
 ///
 /// Everything is read and drawn before anything is written. Returns `NotAnnounced` if the announcement
-/// is not that of a draw of so many entrants from this list, and otherwise the errors that `LotsError`
+/// is not that of a draw of as many entrants from this list, and otherwise the errors that `LotsError`
 /// lists, except `Usage`. After `Write`, how much of the text `out` accepted is unspecified. After
 /// any other error, nothing was written.
 pub fn write_record<A: Allocator, R: Read, W: Write>(

@@ -1,12 +1,12 @@
-//! Bytes as a text in quotation marks, with escapes of what is hidden.
+//! Bytes as a text in quotation marks, with escapes for hidden characters.
 ghost use Rattle.std.specs.Prelude.{◌≡◌, ◌++◌, OnOk, string_bytes};
 ghost use Rattle.lots_record.specs.Quoted as spec;
 
 use std::alloc::{AllocError, Allocator};
 
-/// Whether a character is hidden: a control or format character, a space other than the plain one, a
-/// character of private use, or one of some others that do not show. The table is fixed, and is not
-/// that of a version of Unicode.
+/// Whether a character is hidden: a control or format character, a space other than the plain one,
+/// a character of private use, or another one that does not show. The table is fixed: it does not
+/// follow the version of Unicode.
 fn is_hidden(letter: char) -> bool
     ensures { result ≡ spec.is_hidden letter }
 {
@@ -52,8 +52,8 @@ fn push_letter<A: Allocator>(text: &mut String<A>, letter: char) -> Result<(), A
     text.push(letter)
 }
 
-/// Appends a byte that is not part of a text: the characters of ASCII that show as they are, and
-/// others escaped.
+/// Appends a byte of a list that is not UTF-8: a printable ASCII character except the backslash as
+/// it is, any other byte escaped.
 fn push_byte<A: Allocator>(text: &mut String<A>, byte: u8) -> Result<(), AllocError>
     ensures { OnOk result
         (string_bytes text.new ≡ string_bytes text.old ++ spec.byte_text byte) }
@@ -75,7 +75,7 @@ fn push_letters<A: Allocator>(text: &mut String<A>, letters: &str) -> Result<(),
     Ok(())
 }
 
-/// Appends bytes that are no text.
+/// Appends bytes that are not UTF-8.
 fn push_bytes<A: Allocator>(text: &mut String<A>, bytes: &[u8]) -> Result<(), AllocError>
     ensures { OnOk result
         (string_bytes text.new ≡ string_bytes text.old ++ spec.bytes_text bytes.now) }
@@ -86,7 +86,7 @@ fn push_bytes<A: Allocator>(text: &mut String<A>, bytes: &[u8]) -> Result<(), Al
     Ok(())
 }
 
-/// Appends bytes, with escapes of what is hidden.
+/// Appends bytes, with escapes for hidden characters.
 #[tactic(auto, using(crate::proofs::QuotedLemmas::shown_text, crate::proofs::QuotedLemmas::shown_bytes))]
 fn push_shown<A: Allocator>(text: &mut String<A>, bytes: &[u8]) -> Result<(), AllocError>
     ensures { OnOk result
@@ -98,7 +98,7 @@ fn push_shown<A: Allocator>(text: &mut String<A>, bytes: &[u8]) -> Result<(), Al
     }
 }
 
-/// Appends bytes in quotation marks, with escapes of what is hidden.
+/// Appends bytes in quotation marks, with escapes for hidden characters.
 pub fn push_quoted<A: Allocator>(text: &mut String<A>, bytes: &[u8]) -> Result<(), AllocError>
     ensures { OnOk result
         (string_bytes text.new ≡ string_bytes text.old ++ spec.quoted bytes.now) }

@@ -24,7 +24,7 @@ pub struct Source<'a> {
     pub program: Option<[u8; 32]>,
 }
 
-/// Appends a line with a sum in hexadecimal digits.
+/// Appends a line with a SHA-256 in hexadecimal digits.
 pub fn push_sum<A: Allocator>(
     text: &mut String<A>,
     alloc: &A,

@@ -31,8 +31,9 @@ pub enum EntropyError {
 /// Returns `Short` if the reader returned 0 bytes before the slice was full, and `Fault` if the
 /// reader returned an error, including an interruption. That `Fault` always has this cause is
 /// tested, not proved. The same holds for `Short` if no contract can name the bytes of the reader.
-/// After an error the contents of the slice and the position of the reader are unspecified. A
-/// reader such as a slice of bytes has then returned fewer bytes than were asked for.
+/// After an error the contents of the slice and the position of the reader are unspecified. For a
+/// reader such as a slice of bytes, an error means that it returned fewer bytes than were asked
+/// for.
 pub fn system<R: Read>(source: &mut R, out: &mut [u8]) -> Result<(), EntropyError>
     ensures next { let old = R.remaining source.old in
         OnOk result (Consumes old (R.remaining source.new) out.new) }

@@ -1,5 +1,5 @@
-//! The calls on `WyRand` that are most often made, for which the first word of a range is tried
-//! apart from the search for a later one. The generator itself is in the caller's memory. Not
+//! The most frequent calls on `WyRand`. They try the first word of a range in code of its own,
+//! apart from the search for a later word. The generator itself is in the caller's memory. Not
 //! cryptographically secure.
 ghost use Rattle.std.specs.Prelude.{◌≡◌, ◌≢◌, ◌≤◌, ◌-◌};
 ghost use Rattle.nanorand_core.specs.values.Draws.{after_words};

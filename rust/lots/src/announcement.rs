@@ -8,6 +8,7 @@ use crate::sha256;
 use crate::{count_entrants, LotsError};
 
 /// What an announcement says, besides the list.
+#[derive(Clone, Debug, PartialEq, Eq)]
 pub struct Plan<'a> {
     /// What is drawn for.
     pub occasion: &'a str,
@@ -69,7 +70,7 @@ fn push_seed_lines(
     push_text(text, "time: ", plan.time)
 }
 
-/// Returns the text of the announcement of a draw from a list of so many entrants.
+/// Returns the text of the announcement of a draw from a list of `entrants` entrants.
 fn text_for(
     plan: &Plan<'_>,
     list: &[u8],
@@ -126,6 +127,7 @@ pub fn announcement(plan: &Plan<'_>, list: &[u8]) -> Result<String, LotsError> {
 
 /// The values of the lines of an announcement. A value is empty if its line is missing.
 #[doc(hidden)]
+#[derive(Debug)]
 pub struct Lines<'a> {
     pub format: &'a [u8],
     pub occasion: &'a [u8],
@@ -172,6 +174,7 @@ fn read_text(text: &[u8]) -> Result<Option<String>, LotsError> {
 
 /// The texts of an announcement.
 #[doc(hidden)]
+#[derive(Debug)]
 pub struct Texts {
     pub occasion: String,
     pub source: String,
@@ -217,7 +220,8 @@ fn texts_of(lines: &Lines<'_>) -> Result<Option<Texts>, LotsError> {
     }))
 }
 
-/// Whether no text of the plan is empty, there is a winner, and so many entrants are drawn.
+/// Whether no text of the plan is empty, there is a winner, and winners and reserves are `count`
+/// together.
 fn announces(plan: &Plan<'_>, count: usize) -> bool {
     !plan.occasion.is_empty()
         && !plan.source.is_empty()
@@ -228,8 +232,9 @@ fn announces(plan: &Plan<'_>, count: usize) -> bool {
         && plan.winners.checked_add(plan.reserves) == Some(count)
 }
 
-/// Whether the text is the announcement of a draw of so many entrants from the list, byte for byte:
-/// it reads from the text what it says, makes the announcement, and compares the two.
+/// Whether the text is, byte for byte, the announcement of a draw of `count` entrants from the
+/// list. The function reads the values from the text, writes the announcement again from these, and
+/// compares the two.
 ///
 /// The list has to have `entrants` entrants, as `count_entrants` counts them.
 ///

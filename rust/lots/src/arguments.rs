@@ -1,7 +1,7 @@
 //! Parses the command-line arguments: a seed and a count.
 
 /// How many entrants to draw.
-#[derive(Clone, Copy)]
+#[derive(Clone, Copy, Debug, PartialEq, Eq)]
 pub enum Count {
     /// All of them, which is a shuffle.
     All,
@@ -21,6 +21,7 @@ impl Count {
 }
 
 /// What the arguments ask for.
+#[derive(Clone, Debug, PartialEq, Eq)]
 pub struct Request<'a> {
     /// The seed, which is not empty.
     pub seed: &'a str,
@@ -28,7 +29,7 @@ pub struct Request<'a> {
     pub count: Count,
 }
 
-/// Reads the count: `all`, or decimal digits of a number below 2^64.
+/// Reads the count: `all`, or decimal digits of a number that fits into a `usize`.
 #[must_use]
 pub fn count_of(text: &str) -> Option<Count> {
     if text == "all" {

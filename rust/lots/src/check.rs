@@ -16,7 +16,7 @@ fn names(claims: &Claims, announcement: Option<&[u8]>) -> bool {
     }
 }
 
-/// Whether the announcement, if one is given, is that of a draw of so many entrants from the list.
+/// Whether the announcement, if one is given, is that of a draw of `count` entrants from the list.
 ///
 /// The list has to have `entrants` entrants, as `count_entrants` counts them.
 ///
@@ -35,16 +35,17 @@ pub fn is_announced(
     }
 }
 
-/// Checks that the text is the record of a draw from the list, byte for byte: it reads from the
-/// text what it is made from, makes the record, and compares the two. If an announcement is given,
-/// the record has to name its SHA-256, and the announcement has to be that of a draw of as many
-/// entrants from the list.
+/// Checks that the text is, byte for byte, the record of a draw from the list: the function reads
+/// from the text what a record is made from, makes the record again, and compares the two. If an
+/// announcement is given, the record has to name its SHA-256, and the announcement has to be that
+/// of a draw from the list of as many entrants as the record says.
 ///
 /// # Errors
 ///
-/// Returns the reason if it is not, and the error of the draw if the draw fails. A record of a draw
-/// from this list is refused only with `OtherAnnouncement`, if it does not name the announcement, with
-/// `NotAnnounced`, if the announcement is not that of the draw, or with `Memory`.
+/// Returns the reason if the text is not such a record, and the error of the draw if the draw
+/// fails. A true record of a draw from this list is refused only with `OtherAnnouncement` if it
+/// does not name the announcement, with `NotAnnounced` if the announcement is not that of the draw,
+/// or with `Memory`.
 pub fn check(text: &[u8], announcement: Option<&[u8]>, list: &[u8]) -> Result<(), CheckError> {
     let entrants = count_entrants(list)?;
     let claims = claims_of(text)?;

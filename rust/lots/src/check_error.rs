@@ -12,9 +12,9 @@ pub enum CheckError {
     OtherList,
     /// The record names another announcement, or none.
     OtherAnnouncement,
-    /// The announcement is not that of a draw of so many entrants from the list, as the record says.
+    /// The announcement is not that of a draw from the list of as many entrants as are drawn.
     NotAnnounced,
-    /// The record is not the one of its draw from this list.
+    /// The record is not the one that its draw from this list makes.
     Differs,
     /// The draw that the record describes fails.
     Draw(LotsError),
@@ -29,7 +29,7 @@ impl core::fmt::Display for CheckError {
                 f.write_str("the record names another announcement, or none")
             }
             CheckError::NotAnnounced => f.write_str(
-                "the announcement is not that of a draw of so many entrants from this list",
+                "the announcement does not fit this list and the number of entrants drawn",
             ),
             CheckError::Differs => f.write_str("the record is not that of a draw from this list"),
             CheckError::Draw(field) => write!(f, "{field}"),

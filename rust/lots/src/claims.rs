@@ -92,12 +92,12 @@ fn values_of(text: &[u8]) -> Values<'_> {
     }
 }
 
-/// Returns the sum that 64 hexadecimal digits write.
+/// Returns the SHA-256 that 64 hexadecimal digits spell.
 fn sum_of(digits: &[u8]) -> Option<[u8; 32]> {
     crate::hex::decode(digits)
 }
 
-/// Returns the sum that a text writes, or no sum if it is `none`.
+/// Returns the SHA-256 that a text spells, or no SHA-256 (`Some(None)`) if the text is `none`.
 #[allow(clippy::option_option)] // the proved body is so
 fn announcement_of(text: &[u8]) -> Option<Option<[u8; 32]>> {
     if text == b"none".as_slice() {
@@ -106,7 +106,7 @@ fn announcement_of(text: &[u8]) -> Option<Option<[u8; 32]>> {
     Some(Some(sum_of(text)?))
 }
 
-/// Returns the sum that a text writes, or no sum if it is empty.
+/// Returns the SHA-256 that a text spells, or no SHA-256 (`Some(None)`) if the text is empty.
 #[allow(clippy::option_option)] // the proved body is so
 fn program_of(text: &[u8]) -> Option<Option<[u8; 32]>> {
     if text.is_empty() {
@@ -115,7 +115,7 @@ fn program_of(text: &[u8]) -> Option<Option<[u8; 32]>> {
     Some(Some(sum_of(text)?))
 }
 
-/// Returns the number that decimal digits write, if it is below 2^64.
+/// Returns the number that decimal digits spell, if it is below 2^64.
 pub fn number_of(digits: &[u8]) -> Option<usize> {
     match count_of(std::str::from_utf8(digits).ok()?)? {
         Count::Of(number) => Some(number),

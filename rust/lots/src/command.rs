@@ -4,6 +4,7 @@ use crate::announcement::Plan;
 use crate::arguments::{count_of, read, Count, Request};
 
 /// A command of the program.
+#[derive(Clone, Debug, PartialEq, Eq)]
 pub enum Command<'a> {
     /// Draw, as `run::run` does with the arguments.
     Draw,
@@ -32,8 +33,8 @@ pub enum Command<'a> {
     Help,
 }
 
-/// Returns the command of the arguments. A seed and a count are a draw, whatever the seed is, and
-/// so is anything that is no other command: `run::run` then returns `Usage`.
+/// Returns the command of the arguments. A seed and a count are a draw, whatever the seed is.
+/// `Draw` is also returned for arguments that are no command: `run::run` then returns `Usage`.
 #[must_use]
 pub fn read_command(arguments: &[String]) -> Command<'_> {
     if read(arguments).is_some() {
@@ -85,7 +86,8 @@ fn check_command(values: &[String]) -> Command<'_> {
 }
 
 /// Returns the command of the values after `--announce`: OCCASION WINNERS RESERVES SOURCE FORM
-/// EXAMPLE TIME. No text is empty, and there is a winner.
+/// EXAMPLE TIME. If a text is empty or there is no winner, this is not a command, and `Draw` is
+/// returned.
 fn announce_command(values: &[String]) -> Command<'_> {
     let (occasion, winners, reserves, source, form, example, time) =
         if let [occasion, winners, reserves, source, form, example, time] = values {

@@ -6,7 +6,7 @@ use nanorand_proved::shuffles::partial_shuffle;
 use nanorand_proved::{BufferedRng, ChaCha20};
 
 /// Returns the generator of a seed: the keystream of ChaCha20, read as little-endian words (random
-/// integers) of 64 bits. Its key is the SHA-256 of the text; its nonce and its counter are 0.
+/// integers) of 64 bits. The key is the SHA-256 of the seed; the nonce and the counter are 0.
 fn words_of(seed: &str) -> BufferedRng<ChaCha20, 64> {
     BufferedRng::new(ChaCha20::new_key(sha256::digest(seed.as_bytes()), [0; 8]))
 }

@@ -21,8 +21,8 @@ pub enum LotsError {
     /// The writer returned an error, or accepted 0 bytes. How much of the text it accepted is
     /// unspecified.
     Write,
-    /// 128 words (random integers of 64 bits) in a row were rejected for one place. For a place
-    /// among n entrants, this happens less than once in 2^128 draws.
+    /// 128 words (random integers of 64 bits) in a row were rejected for one place. For each place,
+    /// the probability is below 2^-128.
     Exhausted,
 }
 

@@ -18,7 +18,7 @@ pub fn encode(bytes: &[u8]) -> Result<String, TryReserveError> {
     Ok(text)
 }
 
-/// Returns the bytes that the digits write, in upper or lower case, or `None` if there are not two
+/// Returns the bytes that the digits spell, in upper or lower case, or `None` if there are not two
 /// digits for each of `SIZE` bytes.
 pub fn decode<const SIZE: usize>(digits: &[u8]) -> Option<[u8; SIZE]> {
     if digits.len() != 2 * SIZE {

@@ -8,10 +8,11 @@
 //! # Ok::<(), lots::LotsError>(())
 //! ```
 //!
-//! `record::record` makes the record of a draw, a text with which others repeat the draw, and
-//! `check::check` accepts exactly the texts that it makes of seeds that are not empty.
-//! `announcement::announcement` makes the announcement of a draw, which is published before the seed
-//! is known, and `announcement::is_announcement` says whether a text is that of such a draw.
+//! `record::record` makes the record of a draw, a text with which others repeat the draw.
+//! `check::check` accepts exactly the records that `record::record` makes from seeds that are not
+//! empty. `announcement::announcement` makes the announcement of a draw, which is published before
+//! the seed is known, and `announcement::is_announcement` says whether a text is the announcement
+//! of a given draw.
 //!
 //! The functions have the bodies of the crates `lots_core` and `lots_record` in Rattle, whose
 //! contracts are proved. `sha256`, `hex`, `reading` and `growing` are hand-written. The program

@@ -57,7 +57,7 @@ fn sum_of(announcement: Option<&[u8]>) -> Option<[u8; 32]> {
 ///
 /// # Errors
 ///
-/// Returns `NotAnnounced` if the announcement is not that of a draw of so many entrants from this
+/// Returns `NotAnnounced` if the announcement is not that of a draw of as many entrants from this
 /// list, and otherwise the errors that [`LotsError`] lists, except `Usage`. After `Write`, how much
 /// of the text `out` accepted is unspecified. After any other error, nothing was written.
 pub fn write_record<R: Read, W: Write>(

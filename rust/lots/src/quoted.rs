@@ -1,8 +1,8 @@
-//! Bytes as a text in quotation marks, with escapes of what is hidden.
+//! Bytes as a text in quotation marks, with escapes for hidden characters.
 
-/// Whether a character is hidden: a control or format character, a space other than the plain one, a
-/// character of private use, or one of some others that do not show. The table is fixed, and is not
-/// that of a version of Unicode.
+/// Whether a character is hidden: a control or format character, a space other than the plain one,
+/// a character of private use, or another one that does not show. The table is fixed: it does not
+/// follow the version of Unicode.
 fn is_hidden(letter: char) -> bool {
     matches!(letter,
         '\0'..='\u{1f}' | '\u{7f}'..='\u{a0}' | '\u{ad}' | '\u{34f}' | '\u{600}'..='\u{605}'
@@ -38,8 +38,8 @@ fn push_letter(text: &mut String, letter: char) -> Result<(), std::collections::
     Ok(())
 }
 
-/// Appends a byte that is not part of a text: the characters of ASCII that show as they are, and
-/// others escaped.
+/// Appends a byte of a list that is not UTF-8: a printable ASCII character except the backslash as
+/// it is, any other byte escaped.
 #[allow(clippy::manual_range_contains)] // the proved body is so
 fn push_byte(text: &mut String, byte: u8) -> Result<(), std::collections::TryReserveError> {
     if byte == b'\\' || byte < b' ' || b'~' < byte {
@@ -58,7 +58,7 @@ fn push_letters(text: &mut String, letters: &str) -> Result<(), std::collections
     Ok(())
 }
 
-/// Appends bytes that are no text.
+/// Appends bytes that are not UTF-8.
 fn push_bytes(text: &mut String, bytes: &[u8]) -> Result<(), std::collections::TryReserveError> {
     for byte in bytes {
         push_byte(text, *byte)?;
@@ -66,7 +66,7 @@ fn push_bytes(text: &mut String, bytes: &[u8]) -> Result<(), std::collections::T
     Ok(())
 }
 
-/// Appends bytes, with escapes of what is hidden.
+/// Appends bytes, with escapes for hidden characters.
 fn push_shown(text: &mut String, bytes: &[u8]) -> Result<(), std::collections::TryReserveError> {
     match std::str::from_utf8(bytes) {
         Ok(letters) => push_letters(text, letters),
@@ -74,7 +74,7 @@ fn push_shown(text: &mut String, bytes: &[u8]) -> Result<(), std::collections::T
     }
 }
 
-/// Appends bytes in quotation marks, with escapes of what is hidden.
+/// Appends bytes in quotation marks, with escapes for hidden characters.
 pub fn push_quoted(
     text: &mut String,
     bytes: &[u8],

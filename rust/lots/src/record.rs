@@ -7,6 +7,7 @@ use crate::text::text_of;
 use crate::{draw_lines, LotsError};
 
 /// What a record is made from, besides the list.
+#[derive(Clone, Debug, PartialEq, Eq)]
 pub struct Source<'a> {
     /// The seed, which is not empty.
     pub seed: &'a str,
@@ -18,7 +19,7 @@ pub struct Source<'a> {
     pub program: Option<[u8; 32]>,
 }
 
-/// Appends a line with a sum in hexadecimal digits.
+/// Appends a line with a SHA-256 in hexadecimal digits.
 #[doc(hidden)]
 pub fn push_sum(
     text: &mut String,

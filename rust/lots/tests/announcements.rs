@@ -14,7 +14,7 @@ use records::{announced, ANNOUNCEMENT, LIST, PLAN, SEED};
 /// The number of winners and reserves in the announcement of the example.
 const DRAWN: usize = 4;
 
-/// Whether the text is the announcement of a draw of so many entrants from the list of the example.
+/// Whether the text is the announcement of a draw of `count` entrants from the list of the example.
 fn is_for(text: &[u8], count: usize) -> bool {
     is_announcement(text, LIST.as_bytes(), 12, count).unwrap()
 }

@@ -327,7 +327,7 @@ fn texts_and_statuses_of_the_errors() {
         ),
         (
             CheckError::NotAnnounced,
-            "the announcement is not that of a draw of so many entrants from this list",
+            "the announcement does not fit this list and the number of entrants drawn",
             12,
         ),
         (

@@ -193,3 +193,32 @@ fn version_and_help() {
     assert_eq!(command(&[]), "draw");
     assert_eq!(command(&[""]), "draw");
 }
+
+/// Commands, plans and requests are compared by what they ask for, and show it.
+#[test]
+fn compared_and_shown() {
+    let words = ["--record", "a seed", "2", "a path"].map(String::from);
+    let record = read_command(&words);
+    assert_eq!(record.clone(), record);
+    let text = "Record { request: Request { seed: \"a seed\", count: Of(2) }, \
+                announcement: Some(\"a path\") }";
+    assert_eq!(format!("{record:?}"), text);
+
+    let words = [
+        "--announce",
+        "a jury",
+        "2",
+        "1",
+        "dice",
+        "digits",
+        "42",
+        "noon",
+    ]
+    .map(String::from);
+    let announce = read_command(&words);
+    assert_eq!(announce.clone(), announce);
+    assert_ne!(announce, record);
+    let text = "Announce { plan: Plan { occasion: \"a jury\", winners: 2, reserves: 1, \
+                source: \"dice\", form: \"digits\", example: \"42\", time: \"noon\" } }";
+    assert_eq!(format!("{announce:?}"), text);
+}

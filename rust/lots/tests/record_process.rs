@@ -52,7 +52,7 @@ fn records_and_checks() {
     ends("\"$0\" --check full <list", 0, AGREES, "");
     ends("\"$0\" --check full announcement <list", 0, NAMES, "");
     let unannounced =
-        "lots: the announcement is not that of a draw of so many entrants from this list\n";
+        "lots: the announcement does not fit this list and the number of entrants drawn\n";
     for command in [
         "--record x 2 announcement <list",
         "--record x all announcement <list",
@@ -94,7 +94,7 @@ fn records_and_checks() {
     ends("echo | \"$0\" --record x 3", 4, "", empty);
 }
 
-/// A command that announces a draw of so many winners and reserves, with the texts of the example.
+/// A command that announces a draw of these numbers of winners and reserves, with the texts of the example.
 fn announce(winners: &str, reserves: &str) -> String {
     format!(
         "\"$0\" --announce 'Summer raffle of the school' '{winners}' '{reserves}' \

@@ -212,7 +212,7 @@ fn reports() {
         ),
         (
             CheckError::NotAnnounced,
-            "the announcement is not that of a draw of so many entrants from this list",
+            "the announcement does not fit this list and the number of entrants drawn",
             12,
         ),
         (CheckError::Draw(LotsError::Read), "read failed", 6),

@@ -1,5 +1,5 @@
-//! What the compiler cannot check, since C is responsible for it: where an array lies, and how the
-//! process ends. All unsafe code of the library is in this file.
+//! What the compiler cannot check: where an array of C lies, that bytes are arrays of bytes, and how
+//! the process ends. All unsafe code of the library is in this file.
 
 use core::marker::PhantomData;
 use core::slice;
@@ -35,6 +35,13 @@ impl<'a, T> ArrayMut<'a, T> {
         // writes.
         unsafe { slice::from_raw_parts_mut(self.0, length) }
     }
+}
+
+/// Returns the bytes as arrays of `SIZE` bytes, without those after the last whole array.
+pub fn arrays<const SIZE: usize>(bytes: &mut [u8]) -> &mut [[u8; SIZE]] {
+    let count = bytes.len() / SIZE;
+    // SAFETY: the arrays are within the slice, and an array of bytes has the alignment of a byte.
+    unsafe { slice::from_raw_parts_mut(bytes.as_mut_ptr().cast(), count) }
 }
 
 /// A panic would be a bug of the library. It aborts the process, since C cannot catch it.
@@ -74,5 +81,11 @@ mod tests {
         let mut items = [1, 2, 3, 4];
         ArrayMut(items.as_mut_ptr(), PhantomData).items(3).fill(7);
         assert_eq!(Array(items.as_ptr(), PhantomData).items(4), [7, 7, 7, 4]);
+    }
+
+    #[test]
+    fn arrays_are_whole() {
+        assert_eq!(arrays::<2>(&mut [1, 2, 3, 4, 5]), [[1, 2], [3, 4]]);
+        assert!(arrays::<8>(&mut [1; 7]).is_empty());
     }
 }

@@ -1,6 +1,7 @@
 //! The thirteen functions that every generator has, and the function of parts: their bodies, and
 //! the macros that export them for a generator.
 
+use crate::boundary::arrays;
 use nanorand_proved::values::number::Number;
 use nanorand_proved::values::pick_word;
 use nanorand_proved::{choices, samples, shuffles, Parts, PastPeriod, RangeError, Rng};
@@ -143,8 +144,8 @@ fn word<S: State<N>, const N: usize>(state: &mut S, bits: u32) -> u64 {
     }
 }
 
-/// Returns the number from 0 to `last` that `pick_word` maps a word to, or an error if the word may be
-/// rejected. The number is the high half of the product of the word and the size, which is
+/// Returns the number from 0 to `last` that `pick_word` maps a word to, or an error if the word may
+/// be rejected. The number is the high half of the product of the word and the size, which is
 /// `last` + 1. Fewer words than the size are rejected, those with the least low halves.
 ///
 /// The error is what `searched` needs: the word or, for a word of 32 bits, the product, so that the
@@ -212,21 +213,37 @@ pub fn shuffle<S: State<N>, const N: usize>(state: &mut S, items: &mut [usize]) 
     status(state.call(|rng| rng.shuffle(items)))
 }
 
-/// Shuffles items of `size` bytes each, by the draws of `shuffle` for as many items. The bytes after
-/// the last whole item stay. If `size` is 0, there are no items, and nothing is drawn.
+/// Shuffles items of `size` bytes each, by the draws of `shuffle` for as many items. The bytes
+/// after the last whole item stay. If `size` is 0, there are no items, and nothing is drawn.
+///
+/// Items of the sizes of numbers are shuffled as fast as an array of numbers.
 pub fn shuffle_bytes<S: State<N>, const N: usize>(
     state: &mut S,
     items: &mut [u8],
     size: usize,
 ) -> u32 {
-    let count = items.len().checked_div(size).unwrap_or(0);
-    status(state.call(|rng| {
-        for place in 0..count {
-            let ahead = choices::below(rng, count - place)?;
-            swap_items(items, size, place, place + ahead);
-        }
-        Ok(())
+    status(state.call(|rng| match size {
+        0 => Ok(()),
+        1 => rng.shuffle(items),
+        2 => rng.shuffle(arrays::<2>(items)),
+        4 => rng.shuffle(arrays::<4>(items)),
+        8 => rng.shuffle(arrays::<8>(items)),
+        16 => rng.shuffle(arrays::<16>(items)),
+        _ => shuffle_swapping(rng, items, size),
     }))
+}
+
+fn shuffle_swapping<G: Rng<N>, const N: usize>(
+    rng: &mut G,
+    items: &mut [u8],
+    size: usize,
+) -> Result<(), RangeError> {
+    let count = items.len() / size;
+    for place in 0..count {
+        let ahead = choices::below(rng, count - place)?;
+        swap_items(items, size, place, place + ahead);
+    }
+    Ok(())
 }
 
 /// Swaps two items of `size` bytes each, whose indices are `place` and `other`, which is not less.
@@ -286,8 +303,8 @@ where
     }
 }
 
-/// Exports the thirteen functions of a generator, given its name in C and the type of its state. They
-/// are in a block of their own, since the functions of the next generator have the same names.
+/// Exports the thirteen functions of a generator, given its name in C and the type of its state.
+/// They are in a block of their own, since the functions of the next generator have the same names.
 macro_rules! export_calls {
     ($generator:literal, $state:ty) => {
         const _: () = {

@@ -14,6 +14,12 @@ pub static OUTPUT_CLOSED: AtomicBool = AtomicBool::new(false);
 
 /// Before `main`, std opens `/dev/null` in place of a closed stream. The loader calls the functions
 /// in this section before that.
+// SAFETY: the section is an array of addresses of C functions without results, which the loader
+// calls once before `main`. `find_out` is one, and ignores the arguments that some loaders pass. It
+// does not panic: it makes std's handles of two streams, which allocates their buffers, copies two
+// descriptors, closes the copies, and stores two atomics. std does not guarantee that its calls
+// work before `main`. The calls here need nothing that std sets up there: each handle is made at
+// its first use, and a copy is one system call.
 #[used]
 #[cfg_attr(target_os = "linux", link_section = ".init_array")]
 static BEFORE_STD: extern "C" fn() = find_out;

@@ -35,15 +35,15 @@ impl std::error::Error for EntropyError {}
 /// Fills the slice with the next bytes of the reader, and takes exactly that many. It does not ask
 /// the operating system: [`system::fill`](crate::system::fill) does.
 ///
-/// This is proved for readers such as a slice of bytes. The reader may return the bytes in pieces of
-/// any size. For an empty slice the function returns `Ok` and reads nothing.
+/// This is proved for readers such as a slice of bytes. The reader may return the bytes in pieces
+/// of any size. For an empty slice, the function returns `Ok` and reads nothing.
 ///
 /// # Errors
 ///
 /// Returns `Short` if the reader returned 0 bytes before the slice was full, and `Fault` if the
 /// reader returned an error, including an interruption. After an error the contents of the slice
-/// and the position of the reader are unspecified. A reader such as a slice of bytes has then
-/// returned fewer bytes than were asked for.
+/// and the position of the reader are unspecified. For a reader such as a slice of bytes, an error
+/// means that it returned fewer bytes than were asked for.
 #[cfg(feature = "std")]
 pub fn system<R: Read>(source: &mut R, out: &mut [u8]) -> Result<(), EntropyError> {
     let mut filled = 0;

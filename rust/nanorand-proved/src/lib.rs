@@ -162,8 +162,7 @@
 //!
 //! The feature `std` is on by default. It adds readers, vectors, `std::error::Error`, `Default` and
 //! seeds from the operating system. It also lets `sample` use a table, which makes it linear in
-//! time, and detects AVX2 at run time, which makes fills of `ChaCha` faster. Without `std` the
-//! crate is `no_std` and allocates nothing.
+//! time. Without `std` the crate is `no_std` and allocates nothing.
 //!
 //! The crate `nanorand-proved-rand-core` implements the traits of `rand_core` 0.6.
 #![no_std]

@@ -34,11 +34,11 @@ impl std::error::Error for PastPeriod {}
 ///
 /// - No state occurs in two parts of the same length of one stream.
 /// - From some draw on, the states repeat after the period.
-/// - A request (one read of n bytes), or else a further request of fewer than eight bytes after it,
-///   ends at a draw. That is at most one draw further on for each eight bytes begun, and at least
-///   one if n is not 0.
+/// - After a request (one read of n bytes), the state is one after whole draws, or a further
+///   request of fewer than eight bytes brings it to one. From the state before the request to there
+///   it is at most n / 8 draws, rounded up, and at least one if n is not 0.
 ///
-/// The states meant here are those after whole draws; which state lies within a draw is
+/// These statements are about the states after whole draws. The states within a draw are
 /// unspecified. Two different states may draw the same numbers. It is also proved that the blocks
 /// of `WyRand` and `Pcg64` have no smaller period. For the blocks of ChaCha this is not known.
 ///

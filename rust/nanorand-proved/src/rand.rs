@@ -79,17 +79,22 @@ pub use wyrand::WyRand;
 ///
 /// # Errors of the compiler
 ///
-/// - E0599, "no method named `range` found for type parameter `R`", with the help `R: AnyRng +
-///   Rng`: do not follow it, but call `rng.rng().range(..)`.
+/// - E0599, "no method named `range` found for type parameter `R`", or, for a parameter
+///   `rng: &mut R`, "the method `range` exists for mutable reference `&mut R`, but its trait bounds
+///   were not satisfied", with the help `R: AnyRng + Rng`: do not follow it, but call
+///   `rng.rng().range(..)`.
 /// - E0207, "the const parameter `N` is not constrained": a struct needs `N` as a parameter of its
 ///   own, or `R: AnyRng` in place of `R: Rng<N>`.
 /// - E0277, "the trait `Parts` is not implemented" for a stream: `R: Parts` alone is `R: Parts<8>`.
 ///   Write `fn f<R: Parts<OUTPUT>, const OUTPUT: usize>`.
-/// - E0107, "missing generics for trait `SeedableRng`": that trait is for seeds of bytes, whose
-///   number differs. To make any generator from a number, take a function: `impl Fn(u64) -> R`.
+/// - E0107, "missing generics for trait `SeedableRng`": that trait is for seeds that are arrays of
+///   bytes, whose length differs from generator to generator. To make any generator from a number,
+///   take a function: `impl Fn(u64) -> R`.
 /// - E0499, "cannot borrow `*self` as mutable more than once", where `self.rng.rng()` is kept: make
 ///   the helper a function that takes `rng: &mut dyn AnyRng`.
 /// - E0308, "expected `&mut dyn AnyRng`, found `RefMut`": pass `&mut *cell.borrow_mut()`.
+/// - E0308, "expected `&[str]`, found `&[&str]`", at `choose`: write `*rng.choose_or_panic(names)`,
+///   or give the type, `rng.choose_or_panic::<&str>(names)`.
 #[cfg_attr(
     diagnostic_hints,
     diagnostic::on_unimplemented(
@@ -138,7 +143,7 @@ pub trait Rng<const OUTPUT: usize = 8>: Sized {
     /// # Errors
     ///
     /// The types of this library return `Empty` if the range is empty; nothing is drawn then. They
-    /// return `Exhausted` if 128 words in a row were rejected; they stay consumed.
+    /// return `Exhausted` if 128 words in a row were rejected; these words stay consumed.
     #[inline(always)]
     #[doc(alias = "gen_range", alias = "random_range")]
     fn generate_range<T: RandomRange<Self, OUTPUT> + Clone>(
@@ -222,6 +227,7 @@ pub trait Rng<const OUTPUT: usize = 8>: Sized {
     /// Returns `Empty` if the slice is empty; nothing is drawn then. Returns `Exhausted` if 128
     /// words in a row were rejected; they stay consumed.
     #[inline]
+    #[doc(alias = "choice")]
     fn choose<'a, T>(&mut self, items: &'a [T]) -> Result<&'a T, RangeError> {
         choices::choose(self, items)
     }
@@ -267,7 +273,8 @@ pub trait Rng<const OUTPUT: usize = 8>: Sized {
     /// Draws a sample without replacement from the numbers 0, 1, .., `count` - 1 (so `count` is the
     /// size of the population), one number into each slot, as [`sample`](samples::sample) does.
     ///
-    /// The order of the slots is not random. The expected time is O(k) for k slots; without the
+    /// The order of the slots is not random: [`permute`](Self::permute) them if it matters, as
+    /// after `choose_multiple` of `rand`. The expected time is O(k) for k slots; without the
     /// feature `std`, or without memory for a table, it is O(k^2). If there are no slots, nothing
     /// is drawn.
     ///
@@ -282,7 +289,6 @@ pub trait Rng<const OUTPUT: usize = 8>: Sized {
     /// Panics if there are more than `count` slots.
     #[inline]
     #[track_caller]
-    #[doc(alias = "choose_multiple")]
     fn sample(&mut self, count: usize, places: &mut [usize]) -> Result<(), RangeError> {
         samples::sample(self, count, places)
     }
@@ -387,13 +393,13 @@ pub trait Rng<const OUTPUT: usize = 8>: Sized {
         }
     }
 
-    /// Chooses an item by weight as [`choose_weighted`](Self::choose_weighted) does, and returns its
-    /// index.
+    /// Chooses an item by weight as [`choose_weighted`](Self::choose_weighted) does, and returns
+    /// its index.
     ///
     /// # Panics
     ///
-    /// Panics if there are no weights, if all of them are 0, if their sum is 2^64 or more, or if 128
-    /// words in a row were rejected; they stay consumed.
+    /// Panics if there are no weights, if all of them are 0, if their sum is 2^64 or more, or if
+    /// 128 words in a row were rejected; they stay consumed.
     #[inline]
     #[track_caller]
     fn choose_weighted_or_panic(&mut self, weights: &[u64]) -> usize {
@@ -475,6 +481,7 @@ pub trait Rng<const OUTPUT: usize = 8>: Sized {
     /// # let _ = throws;
     /// ```
     #[inline]
+    #[doc(alias = "random_iter", alias = "sample_iter")]
     fn generate_iter<T: RandomGen<Self, OUTPUT>>(&mut self) -> GenerateIter<'_, T, Self, OUTPUT> {
         GenerateIter::new(self)
     }

@@ -62,11 +62,11 @@ pub fn sample<G: Rng<OUTPUT>, const OUTPUT: usize>(
 /// O(k) for k slots.
 ///
 /// The length and the items of the table change only the time: the numbers, the state and the
-/// errors are those of `sample`. The table links the slots whose numbers agree in their low bits to
-/// a chain, so that a new number is compared with the slots of one chain only. A table of 3k items
-/// makes that at most one slot on average, and a table of 2k items at most two. With k items or
-/// fewer there are no chains, and the time is O(k^2). The contents of the table are unspecified
-/// afterwards.
+/// errors are those of `sample`. The table links the slots whose numbers agree in their low bits
+/// into a chain, so that a new number is compared with the slots of one chain only. On average
+/// these are at most one slot with a table of 3k items, and at most two with a table of 2k items.
+/// With k items or fewer there are no chains, and the time is O(k^2). The contents of the table are
+/// unspecified afterwards.
 ///
 /// # Errors
 ///
@@ -105,11 +105,12 @@ pub fn sample_with<G: Rng<OUTPUT>, const OUTPUT: usize>(
 
 /// Continues a sample: keeps the first `filled` slots, and fills the others.
 ///
-/// Use it to draw a long sample in pieces. Pass the slice without its end first: the first k slots
-/// of a sample are a sample of k of the numbers below `count - (places.len() - k)`. If `filled` is
-/// 0, this is `sample_with`, which describes the table. The slots that are kept are linked into the
-/// table again, which takes O(k). If you keep numbers that agree in their low bits, unlike those of
-/// a sample, they are in one chain, and the time is up to O(k^2).
+/// Use it to draw a long sample in pieces. First pass only the first k slots of the slice: in a
+/// sample of `places.len()` numbers below `count`, they are a sample of the numbers below
+/// `count - (places.len() - k)`, so pass this number as `count`. If `filled` is 0, this is
+/// `sample_with`, which describes the table. The slots that are kept are linked into the table
+/// again, which takes O(k). If you keep numbers that agree in their low bits, unlike those of a
+/// sample, they are in one chain, and the time is up to O(k^2).
 ///
 /// Precondition: the kept slots hold different numbers below `count - places.len() + filled`. Then
 /// all slots hold different numbers below `count` afterwards.
@@ -238,7 +239,7 @@ fn draw_up_to<G: Rng<OUTPUT>, const OUTPUT: usize>(
 /// This is Alan Waterman's algorithm R (Knuth, "The Art of Computer Programming", volume 2; Vitter,
 /// "Random Sampling with a Reservoir", ACM Transactions on Mathematical Software 11(1), 1985). The
 /// first items fill the slots in order. For each later item, which has number i counting from 0, a
-/// number is drawn from `0..=i`: if there is a slot of that number, the item replaces the one in
+/// number is drawn from `0..=i`: if there is a slot with that index, the item replaces the one in
 /// it.
 ///
 /// Returns the number of filled slots: all of them, unless the iterator ends earlier. The slots
@@ -255,7 +256,7 @@ fn draw_up_to<G: Rng<OUTPUT>, const OUTPUT: usize>(
 ///
 /// Returns `Exhausted`, the only error, if 128 words (random integers of 64 bits) in a row were
 /// rejected for one item. That item is dropped, and the items after it are not taken: pass
-/// `&mut items` to keep them. The slots then hold a sample of the items before it, and the words
+/// `&mut iterator` to keep them. The slots then hold a sample of the items before it, and the words
 /// stay consumed. If there are no slots, a number is drawn for each item all the same.
 ///
 /// # Examples

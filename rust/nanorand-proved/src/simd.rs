@@ -4,8 +4,8 @@
 //! Vectors of four words use SSE2 on x86-64, NEON on little-endian `AArch64`, and scalar code
 //! elsewhere. Every processor of these targets has SSE2 or NEON, so nothing is detected at run
 //! time. Vectors of eight words use AVX2, and are available only if the processor has it:
-//! [`EightLanes::find`] detects it, with and without std. The results are the same everywhere; the tests compare them
-//! with scalar code.
+//! [`EightLanes::find`] detects this at run time, with and without std. The results are the same
+//! everywhere; the tests compare them with scalar code.
 //!
 //! This is one of the two files with unsafe code; `system.rs` is the other.
 
@@ -261,9 +261,9 @@ mod avx2 {
     }
 
     const fn from_words(words: [u32; 8]) -> Words {
-        // SAFETY: `transmute` needs bytes that are a value of the new type; the compiler checks that
-        // both types have 32 bytes. All 32 bytes of `[u32; 8]` are initialized, as it has no padding,
-        // and `__m256i` is 256 bits of which each may be 0 or 1.
+        // SAFETY: `transmute` needs bytes that are a value of the new type; the compiler checks
+        // that both types have 32 bytes. All 32 bytes of `[u32; 8]` are initialized, as it has no
+        // padding, and `__m256i` is 256 bits of which each may be 0 or 1.
         unsafe { transmute(words) }
     }
 
@@ -282,8 +282,8 @@ mod avx2 {
 
     #[inline(always)]
     pub(super) fn run<W: Wide>(lanes: EightLanes, work: &mut W, out: &mut [u8]) {
-        // SAFETY: `with_avx2` needs a processor with AVX2. The caller has an `EightLanes`, so this one
-        // has it: see above this module.
+        // SAFETY: `with_avx2` needs a processor with AVX2. The caller has an `EightLanes`, so this
+        // one has it: see above this module.
         unsafe { with_avx2(lanes, work, out) }
     }
 
@@ -313,30 +313,30 @@ mod avx2 {
 
     #[inline(always)]
     pub(super) fn to_array(words: Words) -> [u32; 8] {
-        // SAFETY: `transmute` needs bytes that are a value of the new type; the compiler checks that
-        // both types have 32 bytes. All 32 bytes of `__m256i` are initialized, as it has no padding,
-        // and any four bytes are a value of `u32`.
+        // SAFETY: `transmute` needs bytes that are a value of the new type; the compiler checks
+        // that both types have 32 bytes. All 32 bytes of `__m256i` are initialized, as it has no
+        // padding, and any four bytes are a value of `u32`.
         unsafe { transmute(words) }
     }
 
     #[inline(always)]
     pub(super) fn woven(a: Words, b: Words) -> (Words, Words) {
-        // SAFETY: both unpack instructions need AVX2, and nothing else. The caller has a `U32x8`, so
-        // the processor has AVX2: see above this module.
+        // SAFETY: both unpack instructions need AVX2, and nothing else. The caller has a `U32x8`,
+        // so the processor has AVX2: see above this module.
         unsafe { (_mm256_unpacklo_epi32(a, b), _mm256_unpackhi_epi32(a, b)) }
     }
 
     #[inline(always)]
     pub(super) fn woven_pairs(a: Words, b: Words) -> (Words, Words) {
-        // SAFETY: both unpack instructions need AVX2, and nothing else. The caller has a `U32x8`, so
-        // the processor has AVX2: see above this module.
+        // SAFETY: both unpack instructions need AVX2, and nothing else. The caller has a `U32x8`,
+        // so the processor has AVX2: see above this module.
         unsafe { (_mm256_unpacklo_epi64(a, b), _mm256_unpackhi_epi64(a, b)) }
     }
 
     #[inline(always)]
     pub(super) fn joined(a: Words, b: Words) -> (Words, Words) {
-        // SAFETY: `_mm256_permute2x128_si256` needs AVX2, and nothing else. The caller has a `U32x8`,
-        // so the processor has AVX2: see above this module.
+        // SAFETY: `_mm256_permute2x128_si256` needs AVX2, and nothing else. The caller has a
+        // `U32x8`, so the processor has AVX2: see above this module.
         unsafe {
             (
                 _mm256_permute2x128_si256::<0x20>(a, b),
@@ -361,10 +361,11 @@ mod avx2 {
 
     #[inline(always)]
     pub(super) fn rotate_left(words: Words, bits: u32) -> Words {
-        // SAFETY: the instructions need AVX2, or SSE2, which every processor with AVX2 has. The caller
-        // has a `U32x8`, so the processor has AVX2: see above this module. `read_volatile` needs
-        // a pointer to an aligned and initialized value that nobody writes at the same time. It gets
-        // references to two statics that nobody can write, as they are neither `mut` nor a cell.
+        // SAFETY: the instructions need AVX2, or SSE2, which every processor with AVX2 has. The
+        // caller has a `U32x8`, so the processor has AVX2: see above this module. `read_volatile`
+        // needs a pointer to an aligned and initialized value that nobody writes at the same time.
+        // It gets references to two statics that nobody can write, as they are neither `mut` nor a
+        // cell.
         unsafe {
             match bits {
                 8 => return _mm256_shuffle_epi8(words, read_volatile(&BY_8)),
@@ -378,8 +379,8 @@ mod avx2 {
     }
 }
 
-// Asks the processor for AVX2, as `is_x86_feature_detected!` does, which only std has. The answer is
-// kept, since the question takes hundreds of nanoseconds or, in a virtual machine, microseconds.
+// Asks the processor for AVX2, as `is_x86_feature_detected!` does, which only std has. The answer
+// is kept, since the question takes hundreds of nanoseconds or, in a virtual machine, microseconds.
 #[cfg(all(
     any(test, not(feature = "std")),
     target_arch = "x86_64",
@@ -394,8 +395,8 @@ mod processor {
     const ABSENT: u8 = 1;
     const PRESENT: u8 = 2;
 
-    // Threads that ask at the same time get the same answer and store it twice. Nothing else depends
-    // on it, so the order of the stores does not matter.
+    // Threads that ask at the same time get the same answer and store it twice. Nothing else
+    // depends on it, so the order of the stores does not matter.
     static AVX2: AtomicU8 = AtomicU8::new(NOT_ASKED);
 
     #[inline]
@@ -408,20 +409,20 @@ mod processor {
         known == PRESENT
     }
 
-    // Leaf 0 of `cpuid` returns the number of the last leaf. Bits 27 and 28 of `ecx` in leaf 1 say that
-    // the system has turned on `xgetbv` and that the processor has AVX. Bits 1 and 2 of register 0 of
-    // `xgetbv` say that the system saves the vectors of 16 and of 32 bytes when it switches threads.
-    // Bit 5 of `ebx` in leaf 7 says that the processor has AVX2.
+    // Leaf 0 of `cpuid` returns the number of the last leaf. Bits 27 and 28 of `ecx` in leaf 1 say
+    // that the system has turned on `xgetbv` and that the processor has AVX. Bits 1 and 2 of
+    // register 0 of `xgetbv` say that the system saves the vectors of 16 and of 32 bytes when it
+    // switches threads. Bit 5 of `ebx` in leaf 7 says that the processor has AVX2.
     #[cfg(not(any(miri, target_env = "sgx")))]
     #[cold]
     pub(super) fn asked() -> bool {
         const XGETBV_AND_AVX: u32 = 1 << 27 | 1 << 28;
         const SAVED: u64 = 1 << 1 | 1 << 2;
         const AVX2: u32 = 1 << 5;
-        // SAFETY: `__cpuid` and `__cpuid_count` need a processor that has the instruction `cpuid`; every
-        // x86-64 processor has it, and programs may use it except in SGX, for which this function is
-        // not compiled. `_xgetbv` needs that the system has turned it on; it is called only after bit
-        // 27 of leaf 1 said so. Register 0 always exists.
+        // SAFETY: `__cpuid` and `__cpuid_count` need a processor that has the instruction `cpuid`;
+        // every x86-64 processor has it, and programs may use it except in SGX, for which this
+        // function is not compiled. `_xgetbv` needs that the system has turned it on; it is called
+        // only after bit 27 of leaf 1 said so. Register 0 always exists.
         unsafe {
             __cpuid(0).eax >= 7
                 && __cpuid(1).ecx & XGETBV_AND_AVX == XGETBV_AND_AVX
@@ -530,17 +531,17 @@ mod sse2 {
 
     #[inline(always)]
     pub(super) fn from_array(words: [u32; 4]) -> Words {
-        // SAFETY: `transmute` needs bytes that are a value of the new type; the compiler checks that
-        // both types have 16 bytes. All 16 bytes of `[u32; 4]` are initialized, as it has no padding,
-        // and `__m128i` is 128 bits of which each may be 0 or 1.
+        // SAFETY: `transmute` needs bytes that are a value of the new type; the compiler checks
+        // that both types have 16 bytes. All 16 bytes of `[u32; 4]` are initialized, as it has no
+        // padding, and `__m128i` is 128 bits of which each may be 0 or 1.
         unsafe { transmute(words) }
     }
 
     #[inline(always)]
     pub(super) fn to_array(words: Words) -> [u32; 4] {
-        // SAFETY: `transmute` needs bytes that are a value of the new type; the compiler checks that
-        // both types have 16 bytes. All 16 bytes of `__m128i` are initialized, as it has no padding,
-        // and any four bytes are a value of `u32`.
+        // SAFETY: `transmute` needs bytes that are a value of the new type; the compiler checks
+        // that both types have 16 bytes. All 16 bytes of `__m128i` are initialized, as it has no
+        // padding, and any four bytes are a value of `u32`.
         unsafe { transmute(words) }
     }
 
@@ -605,16 +606,16 @@ mod neon {
 
     #[inline(always)]
     pub(super) fn from_array(words: [u32; 4]) -> Words {
-        // SAFETY: `transmute` needs bytes that are a value of the new type; the compiler checks that
-        // both types have 16 bytes. All 16 bytes of `[u32; 4]` are initialized, as it has no padding,
-        // and `uint32x4_t` is four words of which each bit may be 0 or 1.
+        // SAFETY: `transmute` needs bytes that are a value of the new type; the compiler checks
+        // that both types have 16 bytes. All 16 bytes of `[u32; 4]` are initialized, as it has no
+        // padding, and `uint32x4_t` is four words of which each bit may be 0 or 1.
         unsafe { transmute(words) }
     }
 
     #[inline(always)]
     pub(super) fn to_array(words: Words) -> [u32; 4] {
-        // SAFETY: `transmute` needs bytes that are a value of the new type; the compiler checks that
-        // both types have 16 bytes. All 16 bytes of `uint32x4_t` are initialized, as it has no
+        // SAFETY: `transmute` needs bytes that are a value of the new type; the compiler checks
+        // that both types have 16 bytes. All 16 bytes of `uint32x4_t` are initialized, as it has no
         // padding, and any four bytes are a value of `u32`.
         unsafe { transmute(words) }
     }

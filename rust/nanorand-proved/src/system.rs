@@ -2,9 +2,9 @@
 //!
 //! This is one of the two files with unsafe code; `simd.rs` is the other. It is trusted that each
 //! system has the functions declared here, with these types, and that a call with a pointer and a
-//! size writes only to that many bytes from the pointer on. Each call gets both from a
-//! `&mut [u8]`: it may be written over its whole size, nothing else uses its bytes during the
-//! call, and whatever is written there is a value of `u8`.
+//! size writes only to that many bytes from the pointer on. Each call gets the pointer and the size
+//! from a `&mut [u8]`. This slice may be written over its whole length, nothing else uses its bytes
+//! during the call, and whatever is written there is a value of `u8`.
 
 use std::io::{self, ErrorKind};
 
@@ -61,8 +61,9 @@ mod call {
     // Without flags, the call blocks until the system has gathered enough entropy, which happens
     // once after it starts.
     pub(super) fn request(bytes: &mut [u8]) -> io::Result<usize> {
-        // SAFETY: `getrandom` writes at most `size` bytes from its pointer on, and keeps no pointer.
-        // Pointer and size are those of one `&mut [u8]`, which may be written over its whole size.
+        // SAFETY: `getrandom` writes at most `size` bytes from its pointer on, and keeps no
+        // pointer. Pointer and size are those of one `&mut [u8]`, which may be written over its
+        // whole size.
         let count = unsafe { getrandom(bytes.as_mut_ptr().cast(), bytes.len(), 0) };
         usize::try_from(count).map_err(|_| io::Error::last_os_error())
     }
@@ -119,9 +120,9 @@ mod call {
     ) -> io::Result<usize> {
         let (first, size) = (bytes.as_mut_ptr().cast::<c_void>(), bytes.len());
         let count = match (function, NUMBER) {
-            // SAFETY: `getrandom` writes at most `size` bytes from `first` on, and keeps no pointer.
-            // Both are those of one `&mut [u8]`, which may be written over its whole size. Every
-            // `GetRandom` is the C library's function: `get_random` alone makes one.
+            // SAFETY: `getrandom` writes at most `size` bytes from `first` on, and keeps no
+            // pointer. Both are those of one `&mut [u8]`, which may be written over its whole size.
+            // Every `GetRandom` is the C library's function: `get_random` alone makes one.
             (Some(getrandom), _) => unsafe { getrandom(first, size, flags) },
             // SAFETY: `number` is that of the system call `getrandom` on this processor (Linux
             // never changes a number), and the arguments are the three that it takes, in their
@@ -187,8 +188,9 @@ mod getentropy {
     }
 
     pub(super) fn request(bytes: &mut [u8]) -> io::Result<usize> {
-        // SAFETY: `getentropy` writes at most `size` bytes from its pointer on, and keeps no pointer.
-        // Pointer and size are those of one `&mut [u8]`, which may be written over its whole size.
+        // SAFETY: `getentropy` writes at most `size` bytes from its pointer on, and keeps no
+        // pointer. Pointer and size are those of one `&mut [u8]`, which may be written over its
+        // whole size.
         match unsafe { getentropy(bytes.as_mut_ptr().cast(), bytes.len()) } {
             0 => Ok(bytes.len()),
             _ => Err(io::Error::last_os_error()),
@@ -249,8 +251,8 @@ mod wasi {
     }
 
     pub(super) fn request(bytes: &mut [u8]) -> io::Result<usize> {
-        // SAFETY: `random_get` writes `size` bytes from its pointer on, and keeps no pointer. Pointer
-        // and size are those of one `&mut [u8]`, which may be written over its whole size.
+        // SAFETY: `random_get` writes `size` bytes from its pointer on, and keeps no pointer.
+        // Pointer and size are those of one `&mut [u8]`, which may be written over its whole size.
         match unsafe { random_get(bytes.as_mut_ptr(), bytes.len()) } {
             0 => Ok(bytes.len()),
             error => Err(io::Error::from_raw_os_error(error)),
@@ -285,9 +287,9 @@ mod process_prng {
 
     pub(super) fn request(bytes: &mut [u8]) -> io::Result<usize> {
         let process_prng = load().ok_or_else(io::Error::last_os_error)?;
-        // SAFETY: `ProcessPrng` writes `size` bytes from its pointer on, and keeps no pointer. Pointer
-        // and size are those of one `&mut [u8]`, which may be written over its whole size. `load`
-        // returned the function of that name; its library is never unloaded.
+        // SAFETY: `ProcessPrng` writes `size` bytes from its pointer on, and keeps no pointer.
+        // Pointer and size are those of one `&mut [u8]`, which may be written over its whole size.
+        // `load` returned the function of that name; its library is never unloaded.
         match unsafe { process_prng(bytes.as_mut_ptr(), bytes.len()) } {
             0 => Err(io::Error::last_os_error()),
             _ => Ok(bytes.len()),

@@ -553,7 +553,7 @@ fn errors_are_passed_on() {
         Ok(rng.generate_range(5..5)?)
     }
     let refused = draw().expect_err("an empty range");
-    assert_eq!(refused.to_string(), "the range contains no number");
+    assert_eq!(refused.to_string(), "there is nothing to draw from");
     assert!(WyRand::new(&mut io::empty()).is_err());
 }
 

@@ -22,8 +22,8 @@
 //! which uses PCG32.
 //!
 //! For many numbers of ChaCha, wrap a stream, such as
-//! [`ChaCha20Stream`](nanorand_proved::ChaCha20Stream). It drops no bytes, whereas `ChaCha` computes
-//! a block of 64 bytes for each number.
+//! [`ChaCha20Stream`](nanorand_proved::ChaCha20Stream). It drops no bytes, whereas `ChaCha`
+//! computes a block of 64 bytes for each number.
 #![no_std]
 #![forbid(unsafe_code)]
 #![deny(missing_docs)]

@@ -1,7 +1,7 @@
 //! `Core` returns what the generator inside it returns, and seeds it as `rand_core` specifies.
 
 use nanorand_proved::{
-    BufferedRng, ChaCha, ChaCha12, ChaCha12Stream, ChaCha20, ChaCha20Stream, ChaCha8,
+    AnyRng, BufferedRng, ChaCha, ChaCha12, ChaCha12Stream, ChaCha20, ChaCha20Stream, ChaCha8,
     ChaCha8Stream, ChaChaStream, Pcg64, Rng, WyRand,
 };
 use nanorand_proved_rand_core::{ChaChaSeed, Core};
@@ -54,6 +54,19 @@ fn check<G: Rng<OUTPUT> + Clone + PartialEq + Debug, const OUTPUT: usize>(fresh:
         assert_eq!(some, again, "{length}");
         assert_eq!(core.0, own, "{length}");
     }
+}
+
+/// A lent generator draws by `Core`, and keeps its own calls.
+#[test]
+fn lent_generators() {
+    let (mut rng, mut own) = (WyRand::seed_from_u64(42), WyRand::seed_from_u64(42));
+    assert_eq!(Core(&mut rng).next_u64(), own.next_u64());
+    assert_eq!(rng.range::<u64>(1..=6), own.range(1..=6));
+    assert_eq!(Core(AnyRng::rng(&mut rng)).next_u32(), own.next_u32());
+    assert_eq!(rng, own);
+    let mut stream = ChaCha20Stream::seed_from_u64(42);
+    let first = Core(&mut stream).next_u64();
+    assert_eq!(first, ChaCha20Stream::seed_from_u64(42).next_u64());
 }
 
 /// A generator with blocks of any size. Each byte of a block differs from the byte before it, and

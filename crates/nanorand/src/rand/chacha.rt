@@ -125,8 +125,8 @@ impl<const ROUNDS: u8> ChaCha<ROUNDS> {
     /// Creates a generator from the next 40 bytes of a reader, with the counter 0: the first 32 are
     /// the key and the other 8 the nonce. Precondition: `ROUNDS` is even.
     ///
-    /// Returns `Short` or `Fault`, as `entropy::system` does. A reader such as a slice of bytes has
-    /// then returned fewer than 40 bytes.
+    /// Returns `Short` or `Fault`, as `entropy::system` does. For a reader such as a slice of
+    /// bytes, an error means that it returned fewer than 40 bytes.
     pub fn new<R: Read>(source: &mut R) -> Result<Self, EntropyError>
         requires { ROUNDS % 2 ≡ 0 }
         ensures made { let old = R.remaining source.old in

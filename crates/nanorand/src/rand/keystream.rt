@@ -73,10 +73,10 @@ pub trait Keystream<const OUTPUT: usize>: Rng<OUTPUT> {
         ensures bytes { (n : ℕ) → let sought = Self.requests.after (at key nonce 0) (index * 64) in
             Self.requests.bytes result n ≡ Self.requests.bytes sought n };
 
-    /// Creates a stream whose key and nonce are made from a number, which may be small, at byte 0.
-    /// They are 40 bytes that SplitMix64 produces, as `ChaCha::seed_from_u64` describes. There are
-    /// only 2^64 such keys, so they keep no secret. Precondition: for ChaCha, the number of rounds
-    /// is even.
+    /// Creates a stream, at byte 0, whose key and nonce are made from a number, which may be small.
+    /// Key and nonce are 40 bytes that SplitMix64 produces, as `ChaCha::seed_from_u64` describes.
+    /// There are only 2^64 such keys, so they keep no secret. Precondition: for ChaCha, the number
+    /// of rounds is even.
     fn seed_from_u64(number: u64) -> Self
         requires { can_start }
         ensures state { let seed = seed_from 40 number in
@@ -90,8 +90,8 @@ pub trait Keystream<const OUTPUT: usize>: Rng<OUTPUT> {
     /// Moves to this byte of the stream, forward or back. Byte 2^70 is byte 0 again. Buffered bytes
     /// are dropped.
     ///
-    /// The state is then the one that a request for all bytes before this one leaves, made at byte
-    /// 0.
+    /// The state is then the same as after one request, made at byte 0, for all bytes before this
+    /// one.
     fn seek(&mut self, byte: u128)
         ensures state { self.new ≡ Self.requests.after (restarted self.old) byte }
         ensures position { position self.new ≡ byte % 2 ^ 70 }

@@ -102,8 +102,8 @@ impl Pcg64 {
     /// `state` and `inc` are 0. Rust's `Pcg64::new()` takes its seed from the system; here the
     /// caller passes a reader.
     ///
-    /// Returns `Short` or `Fault`, as `entropy::system` does. A reader such as a slice of bytes has
-    /// then returned fewer than 16 bytes.
+    /// Returns `Short` or `Fault`, as `entropy::system` does. For a reader such as a slice of
+    /// bytes, an error means that it returned fewer than 16 bytes.
     pub fn new<R: Read>(source: &mut R) -> Result<Self, EntropyError>
         ensures made { let old = R.remaining source.old in
             IfOk result (IsMadeOf 16 seeded_generator old (R.remaining source.new)) }

@@ -90,8 +90,8 @@ impl WyRand {
     /// Rust's `WyRand::new()` takes its seed from the system; here the caller passes a reader, or
     /// passes a number to `new_seed`.
     ///
-    /// Returns `Short` or `Fault`, as `entropy::system` does. A reader such as a slice of bytes has
-    /// then returned fewer than 8 bytes.
+    /// Returns `Short` or `Fault`, as `entropy::system` does. For a reader such as a slice of
+    /// bytes, an error means that it returned fewer than 8 bytes.
     pub fn new<R: Read>(source: &mut R) -> Result<Self, EntropyError>
         ensures made { let old = R.remaining source.old in
             IfOk result (IsMadeOf 8 number_of old (R.remaining source.new)) }

@@ -19,8 +19,8 @@ use std::ops::Bound;
 /// number from the type's least number up to `n` - 1.
 ///
 /// Returns `Exhausted`, the only error, if 128 words in a row were rejected; they stay consumed. If
-/// the count of the numbers below `n` is a power of two (for an unsigned type: if `n` is one), no
-/// word is rejected, and no error is returned.
+/// the count of the numbers below `n` is a power of two (for an unsigned type: if `n` itself is a
+/// power of two), no word is rejected, and no error is returned.
 ///
 /// Precondition: the type has a number below `n`.
 #[inline]

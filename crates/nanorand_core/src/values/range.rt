@@ -17,12 +17,13 @@ use crate::values::word::draw_below;
 use std::ops::Bound;
 use thiserror::Error;
 
-/// The reasons why a draw from a range returned no number. The meanings given here are those of the
-/// integer types; a type of your own defines when it returns each error.
+/// The reasons why a draw from a range, a slice, a ratio or a sample returned nothing. The meanings
+/// given here are those of the integer types; a type of your own defines when it returns each
+/// error.
 #[derive(Clone, Copy, Debug, PartialEq, Eq, Error)]
 pub enum RangeError {
-    /// The range is empty. Nothing was drawn.
-    #[error("the range contains no number")]
+    /// The range or the slice is empty, or the denominator of a ratio is 0. Nothing was drawn.
+    #[error("there is nothing to draw from")]
     Empty,
     /// 128 words (random integers of the type's width) were drawn, and all were rejected. They stay
     /// consumed.
@@ -50,7 +51,7 @@ pub trait RandomRange<G: Rng<OUTPUT>, const OUTPUT: usize>: RandomGen<G, OUTPUT>
     ///
     /// Returns an error as the type defines. The integer types return `Empty` if the range is
     /// empty; nothing is drawn then. They return `Exhausted` if 128 words in a row were rejected;
-    /// they stay consumed.
+    /// these words stay consumed.
     fn random_range(rng: &mut G, low: Bound<Self>, high: Bound<Self>) -> Result<Self, RangeError>
         ensures value { result ≡ (outcome rng.old low high).0 }
         ensures state { rng.new ≡ (outcome rng.old low high).1 }

@@ -54,7 +54,7 @@ const ANSWERS: [(Answer, &str); 11] = [
 
 // The `Debug` and the `Display` text of each error.
 const RANGE_ERRORS: [(RangeError, &str, &str); 2] = [
-    (RangeError::Empty, "Empty", "the range contains no number"),
+    (RangeError::Empty, "Empty", "there is nothing to draw from"),
     (
         RangeError::Exhausted,
         "Exhausted",

@@ -38,7 +38,7 @@ end of the announcement
 "#;
 
 const NOT_ANNOUNCED: &str =
-    "lots: the announcement is not that of a draw of so many entrants from this list\n";
+    "lots: the announcement does not fit this list and the number of entrants drawn\n";
 
 // The arguments of the command that writes it.
 const ARGUMENTS: [&str; 8] = [
@@ -52,7 +52,7 @@ const ARGUMENTS: [&str; 8] = [
     "Friday 4 December 2026, 12:00, Madrid",
 ];
 
-// The program writes an announcement of so many winners and reserves from the list.
+// The program writes an announcement with these numbers of winners and reserves for the list.
 #[derive(Drop)]
 struct Announces<'a> {
     winners: usize,
@@ -82,7 +82,7 @@ const RAFFLE: Announces<'static> = Announces {
     list: NAMES,
 };
 
-// The program draws so many entrants from the list, and writes the record with this announcement.
+// The program draws a number of entrants from the list, and writes the record with this announcement.
 #[derive(Drop)]
 struct Records<'a> {
     announcement: &'a [u8],

@@ -15,7 +15,7 @@ use core::ops::Bound;
 ///
 /// Returns `Empty` if the type has no number below `n`; nothing is drawn then. Returns `Exhausted`
 /// if 128 words in a row were rejected; they stay consumed. If the count of the numbers below `n`
-/// is a power of two (for an unsigned type: if `n` is one), no word is rejected.
+/// is a power of two (for an unsigned type: if `n` itself is a power of two), no word is rejected.
 ///
 /// # Examples
 ///

@@ -7,10 +7,12 @@ use crate::rand::{ChaCha, ChaChaGroups, Pcg64, Rng, WyRand};
 /// Any generator, whatever the size of its blocks: take it as `&mut dyn AnyRng` or
 /// `&mut impl AnyRng`.
 ///
-/// `dyn AnyRng` has all calls of [`Rng`] itself. For a type parameter `R: AnyRng`,
+/// `dyn AnyRng` has all calls of [`Rng`] as methods of its own. For a type parameter `R: AnyRng`,
 /// [`rng`](Self::rng) borrows the generator as a `dyn AnyRng`. These calls draw the same values as
 /// those of the generator. A `Box<dyn AnyRng>` has all calls too; for a `Box<dyn AnyRng + Send>`
 /// call `rng()` first.
+///
+/// The supertrait `AsDyn` is implemented for every `AnyRng`; you never call or implement it.
 ///
 /// ```
 /// use nanorand_proved::{AnyRng, ChaCha20Stream, RangeError, Rng, WyRand};

@@ -1,5 +1,5 @@
-//! Random durations, and ranges of durations. Hand-written on top of ranges of `u64` and `u128`, and
-//! tested, not proved.
+//! Random durations, and ranges of durations. Hand-written on top of ranges of `u64` and `u128`,
+//! and tested, not proved.
 
 use super::mapped;
 use crate::rand::Rng;

@@ -7,8 +7,9 @@ use crate::rand::Rng;
 use crate::values::{RandomGen, RandomRange, RangeError};
 use core::ops::RangeBounds;
 
-/// A type whose values a `dyn AnyRng` draws: each [`RandomGen`] type of this library, and each of a
-/// program that implements it for all generators. Use it as the bound of a type parameter:
+/// A type whose values a `dyn AnyRng` draws: every type of this library that implements
+/// [`RandomGen`], and every type of your own that implements it for all generators. Use it as the
+/// bound of a type parameter:
 ///
 /// ```
 /// use nanorand_proved::{AnyRng, AnyValue, WyRand};
@@ -33,9 +34,9 @@ pub trait AnyValue: for<'a> RandomGen<&'a mut (dyn AnyRng + 'a), 8> {}
 #[cfg_attr(do_not_recommend, diagnostic::do_not_recommend)]
 impl<T: for<'a> RandomGen<&'a mut (dyn AnyRng + 'a), 8>> AnyValue for T {}
 
-/// A type of whose ranges a `dyn AnyRng` draws numbers: each [`RandomRange`] type of this library,
-/// and each of a program that implements it for all generators. Use it as the bound of a type
-/// parameter, as [`AnyValue`].
+/// A type from whose ranges a `dyn AnyRng` draws values: every type of this library that implements
+/// [`RandomRange`], and every type of your own that implements `Clone`, and [`RandomRange`] for all
+/// generators. Use it as the bound of a type parameter, like [`AnyValue`].
 #[cfg_attr(
     diagnostic_hints,
     diagnostic::on_unimplemented(

@@ -84,7 +84,7 @@ impl<const ROUNDS: u8> ChaCha<ROUNDS> {
 }
 
 impl<const ROUNDS: u8> ChaChaStream<ROUNDS> {
-    /// Creates a stream from a number, which may be small, at byte 0: see
+    /// Creates a stream, at byte 0, from a number, which may be small: see
     /// [`ChaCha::seed_from_u64`](crate::ChaCha::seed_from_u64). An odd `ROUNDS` does not compile.
     #[must_use]
     pub fn seed_from_u64(number: u64) -> Self {

@@ -98,8 +98,8 @@ impl<const ROUNDS: u8> ChaCha<ROUNDS> {
     ///
     /// # Errors
     ///
-    /// Returns `Short` or `Fault`, as `entropy::system` does. A reader such as a slice of bytes has
-    /// then returned fewer than 40 bytes.
+    /// Returns `Short` or `Fault`, as `entropy::system` does. For a reader such as a slice of
+    /// bytes, an error means that it returned fewer than 40 bytes.
     #[cfg(feature = "std")]
     pub fn new<R: Read>(source: &mut R) -> Result<Self, EntropyError> {
         let () = crate::layer::Rounds::<ROUNDS>::EVEN;

@@ -43,8 +43,8 @@ pub trait Keystream<const OUTPUT: usize>: Rng<OUTPUT> {
     /// which is byte `index * 64`. For ChaCha, an odd number of rounds does not compile.
     fn at_block(key: [u8; 32], nonce: [u8; 8], index: u64) -> Self;
 
-    /// Creates a stream whose key and nonce are made from a number, which may be small, at byte 0.
-    /// They are 40 bytes that SplitMix64 produces, as
+    /// Creates a stream, at byte 0, whose key and nonce are made from a number, which may be small.
+    /// Key and nonce are 40 bytes that SplitMix64 produces, as
     /// [`ChaCha::seed_from_u64`](crate::ChaCha::seed_from_u64) describes. There are only 2^64 such
     /// keys, so they keep no secret. For ChaCha, an odd number of rounds does not compile.
     #[must_use]
@@ -56,8 +56,8 @@ pub trait Keystream<const OUTPUT: usize>: Rng<OUTPUT> {
     /// Moves to this byte of the stream, forward or back. Byte 2^70 is byte 0 again. Buffered bytes
     /// are dropped.
     ///
-    /// The state is then the one that a request for all bytes before this one leaves, made at byte
-    /// 0.
+    /// The state is then the same as after one request, made at byte 0, for all bytes before this
+    /// one.
     fn seek(&mut self, byte: u128);
 
     /// Returns the number of the next byte, for a stream that was created by `new_key` or
@@ -92,8 +92,8 @@ pub fn chacha_stream_at<const ROUNDS: u8>(
     Keystream::at_block(key, nonce, index)
 }
 
-/// Creates the stream of a number, which may be small, at byte 0, as [`Keystream::seed_from_u64`]
-/// does, without the need to import that trait. An odd `ROUNDS` does not compile.
+/// Creates the stream of a number, which may be small, as [`Keystream::seed_from_u64`] does,
+/// without the need to import that trait. An odd `ROUNDS` does not compile.
 #[must_use]
 pub fn chacha_stream_from_u64<const ROUNDS: u8>(number: u64) -> ChaChaStream<ROUNDS> {
     let () = crate::layer::Rounds::<ROUNDS>::EVEN;

@@ -62,8 +62,8 @@ impl WyRand {
     ///
     /// # Errors
     ///
-    /// Returns `Short` or `Fault`, as `entropy::system` does. A reader such as a slice of bytes has
-    /// then returned fewer than 8 bytes.
+    /// Returns `Short` or `Fault`, as `entropy::system` does. For a reader such as a slice of
+    /// bytes, an error means that it returned fewer than 8 bytes.
     #[cfg(feature = "std")]
     pub fn new<R: Read>(source: &mut R) -> Result<Self, EntropyError> {
         let mut seed = [0; 8];

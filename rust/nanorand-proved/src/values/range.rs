@@ -9,12 +9,12 @@ use crate::values::word::draw_below;
 use crate::values::RandomGen;
 use core::ops::Bound;
 
-/// The reasons why a draw from a range returned no number. `Rng::range` and `Rng::permute` panic
-/// instead. The meanings given here are those of the integer types; a type of your own defines when
-/// it returns each error.
+/// The reasons why a draw from a range, a slice, a ratio or a sample returned nothing. `Rng::range`
+/// and `Rng::permute` panic instead. The meanings given here are those of the integer types; a type
+/// of your own defines when it returns each error.
 #[derive(Clone, Copy, Debug, PartialEq, Eq)]
 pub enum RangeError {
-    /// The range is empty. Nothing was drawn.
+    /// The range or the slice is empty, or the denominator of a ratio is 0. Nothing was drawn.
     Empty,
     /// 128 words (random integers of the type's width) were drawn, and all were rejected. They stay
     /// consumed.
@@ -24,7 +24,7 @@ pub enum RangeError {
 impl core::fmt::Display for RangeError {
     fn fmt(&self, f: &mut core::fmt::Formatter<'_>) -> core::fmt::Result {
         f.write_str(match self {
-            RangeError::Empty => "the range contains no number",
+            RangeError::Empty => "there is nothing to draw from",
             RangeError::Exhausted => "128 words in a row were rejected",
         })
     }
@@ -69,8 +69,8 @@ pub trait RandomRange<G: Rng<OUTPUT>, const OUTPUT: usize>: RandomGen<G, OUTPUT>
     /// # Errors
     ///
     /// Returns an error as the type defines. The types of this library return `Empty` if the range
-    /// is empty; nothing is drawn then. They return `Exhausted` after 128 rejected words; they stay
-    /// consumed. A range of floats is empty if a bound is infinite or NaN, if the low bound is
+    /// is empty; nothing is drawn then. They return `Exhausted` after 128 rejected words, which
+    /// stay consumed. A range of floats is empty if a bound is infinite or NaN, if the low bound is
     /// above the high one, or if both are equal and one is excluded.
     fn random_range(rng: &mut G, low: Bound<Self>, high: Bound<Self>) -> Result<Self, RangeError>;
 

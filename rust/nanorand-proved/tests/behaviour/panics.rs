@@ -67,7 +67,7 @@ impl<G: Rng<N>, const N: usize> RandomRange<G, N> for Card {
     }
 }
 
-/// The call panics with this text at the end or in quotation marks, names this file, and draws so many words before.
+/// The call panics with this text at the end or in quotation marks, names this file, and draws `drawn` words before.
 fn panics<F: FnMut(&mut Constant) -> R, R>(text: &str, drawn: u64, mut call: F) {
     static HOOK: Once = Once::new();
     HOOK.call_once(|| {

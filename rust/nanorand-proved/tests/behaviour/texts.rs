@@ -187,7 +187,7 @@ fn of_a_buffer_over_any_generator() {
 fn of_errors() {
     let rejected = "128 words in a row were rejected";
     let rows: [(&dyn Error, &str, &str); 12] = [
-        (&RangeError::Empty, "Empty", "the range contains no number"),
+        (&RangeError::Empty, "Empty", "there is nothing to draw from"),
         (&RangeError::Exhausted, "Exhausted", rejected),
         (&WeightError::NoWeight, "NoWeight", "no item has a weight"),
         (

@@ -139,6 +139,46 @@ fn chosen_by_number<G: Rng<OUTPUT> + Clone, const OUTPUT: usize>(mut rng: G) {
     assert_eq!(rng.generate::<u64>(), other.generate::<u64>());
 }
 
+/// The running sums of the weights find the same index, from the same words. The README says so.
+fn chosen_by_sums<G: Rng<OUTPUT> + Clone, const OUTPUT: usize>(mut rng: G) {
+    let mut other = rng.clone();
+    let rows: [&[u64]; 7] = [
+        &[1],
+        &[5, 0, 1, 10],
+        &[0, 0, 3, 0, 0, 7, 0],
+        &[0, 1, 0, u64::MAX - 1, 0],
+        &[HALF, 0, 1],
+        &[0, HALF - 1, 0, 0, HALF],
+        &[u64::MAX],
+    ];
+    for weights in rows {
+        let mut total = 0;
+        let running = weights.iter().map(|weight| {
+            total += weight;
+            total
+        });
+        let sums: Vec<u64> = running.collect();
+        for _ in 0..50 {
+            let number = other.range::<u64>(..total);
+            let index = sums.partition_point(|sum| *sum <= number);
+            assert_eq!(choose_weighted(&mut rng, weights), Ok(index), "{weights:?}");
+        }
+        assert_eq!(
+            rng.generate::<u64>(),
+            other.generate::<u64>(),
+            "{weights:?}"
+        );
+    }
+}
+
+#[test]
+fn by_running_sums() {
+    chosen_by_sums(WyRand::new_seed(42));
+    chosen_by_sums(Pcg64::new_seed(42));
+    chosen_by_sums(ChaCha8::new_key([7; 32], [9; 8]));
+    chosen_by_sums(BufferedRng::new(WyRand::new_seed(42)));
+}
+
 #[test]
 fn by_each_generator() {
     chosen_by_number(WyRand::new_seed(42));

@@ -8,7 +8,7 @@ use Rattle.lots_core.specs.Text.{HasSelection, places_asked}
 use Rattle.lots_core.proofs.lemmas.DrawLemmas.{drawn-map}
 use Rattle.lots_core.proofs.selection.draw_lines.Goals as goal
 
--- If so many of the entrants can be drawn, so many of their lines can.
+-- If `count` of the entrants can be drawn, `count` of their lines can.
 selected : {T : Type 0} (line : T → List ℕ) (asked : Asked) (entrants : List T) (count : ℕ)
     → count ≡ number_asked asked.count (length entrants) → count ≤ length entrants
     → (drawing asked.seed count entrants).answer ≡ Ok tt

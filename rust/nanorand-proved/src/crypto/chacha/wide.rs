@@ -1,5 +1,5 @@
-//! Vectors of eight lanes. They are hand-written, since Rattle has no way to ask which processor
-//! has them.
+//! Vectors of eight lanes. They are hand-written, since Rattle has no way to ask whether the
+//! processor has them.
 
 use super::vectors::Vector;
 use crate::simd::U32x8;

@@ -26,8 +26,8 @@ fn number_of_states() -> usize {
     states.parse().expect("a number of states")
 }
 
-/// The permission that `find` grants, or any where the body for eight words is plain code, which
-/// every processor can run.
+/// The permission that `find` grants. Where the body for eight words is plain code, which every
+/// processor can run, any permission will do.
 fn eight_lanes() -> Option<EightLanes> {
     let plain = cfg!(not(all(target_arch = "x86_64", target_feature = "sse2")));
     EightLanes::find().or(plain.then_some(EightLanes(())))
