@@ -56,15 +56,15 @@ function showOutcome(outcome) {
 /**
  * Reads a file that was dropped on a field. An announcement is for its own field, and another file is no announcement. A
  * record may have other text above it.
- * @param {File} file @param {"check-text"|"check-announcement"} field
+ * @param {File} file @param {"check-text"|"check-announcement"} field @param {import("./files.js").Take} take
  */
-export async function readForField(file, field) {
+export async function readForField(file, field, take) {
   recordChanged();
   try {
     const bytes = new Uint8Array(await file.arrayBuffer());
     const kind = kindOfFile(bytes) === "announcement" ? "announcement" : "record";
     if (kind === "record" && field === "check-announcement") throw new Refusal("file is no announcement");
-    showForCheck(kind, bytes);
+    take(kind, bytes);
   } catch (error) {
     part(field).value = "";
     const unread = field === "check-text" ? "record cannot be read" : "announcement to check cannot be read";

@@ -9,17 +9,33 @@ import { Refusal } from "./refusal.js";
 import { refuse } from "./session.js";
 import { clearRefusals, part, tabShown } from "./view.js";
 
-/** Takes a file that is no list, as the tab says. @param {"record"|"announcement"} kind @param {Uint8Array} bytes */
+/** @typedef {(kind: "record"|"announcement", bytes: Uint8Array) => void} Take */
+
+/** How often files were opened, and which of these times had the last record and the last announcement. */
+const opened = { times: 0, record: 0, announcement: 0 };
+
+/** Takes a file that is no list, as the tab says. @type {Take} */
 function takeOther(kind, bytes) {
   if (tabShown() === "check") showForCheck(kind, bytes);
   else if (kind === "announcement") openAnnouncement(bytes);
   else refuse(new Refusal("file is a record"));
 }
 
-/** @param {File} file @param {import("./kinds.js").Kind} kind */
-async function openAs(file, kind) {
-  if (kind === "list") openFile(file, takeOther);
-  else takeOther(kind, new Uint8Array(await file.arrayBuffer()));
+/** For the files that are opened now. It leaves out those that are read after later ones of their kind. @returns {Take} */
+function takeNow() {
+  opened.times += 1;
+  const { times } = opened;
+  return (kind, bytes) => {
+    if (times < opened[kind]) return;
+    opened[kind] = times;
+    takeOther(kind, bytes);
+  };
+}
+
+/** @param {File} file @param {import("./kinds.js").Kind} kind @param {Take} take */
+async function openAs(file, kind, take) {
+  if (kind === "list") openFile(file, take);
+  else take(kind, new Uint8Array(await file.arrayBuffer()));
 }
 
 /** Throws a Refusal if two files are of one kind. @param {File[]} files @param {import("./kinds.js").Kind[]} kinds */
@@ -31,13 +47,16 @@ function refuseTwo(files, kinds) {
   throw new Refusal(tabShown() === "check" ? "two files to check" : "two files", { kind, names });
 }
 
-/** Opens each file as what its first line says, or none of them if two are of one kind. @param {File[]} files */
-async function openTogether(files) {
+/**
+ * Opens each file as what its first line says, or none of them if two are of one kind.
+ * @param {File[]} files @param {Take} take
+ */
+async function openTogether(files, take) {
   try {
     const starts = await Promise.all(files.map((file) => file.slice(0, START).arrayBuffer()));
     const kinds = starts.map((start) => kindOfFile(new Uint8Array(start)));
     refuseTwo(files, kinds);
-    await Promise.all(files.map((file, place) => openAs(file, kinds[place])));
+    await Promise.all(files.map((file, place) => openAs(file, kinds[place], take)));
   } catch (error) {
     const unread = new Refusal(tabShown() === "check" ? "record cannot be read" : "list cannot be read");
     refuse(error instanceof Refusal ? error : unread);
@@ -51,15 +70,16 @@ export function filesDropped(event) {
   event.preventDefault();
   clearRefusals("file", "record", "check-announcement");
   const { target } = event;
+  const take = takeNow();
   const isAlone = files.length === 1;
-  if (isAlone && ["check-text", "check-announcement"].includes(target.id)) readForField(files[0], target.id);
-  else if (isAlone && !part("check-step").contains(target)) openFile(files[0], takeOther);
-  else openTogether(files);
+  if (isAlone && ["check-text", "check-announcement"].includes(target.id)) readForField(files[0], target.id, take);
+  else if (isAlone && !part("check-step").contains(target)) openFile(files[0], take);
+  else openTogether(files, take);
 }
 
 /** Opens the chosen file. The field forgets it, so that the same file can be opened again once it has changed. */
 export function fileChosen() {
   clearRefusals("file");
-  openFile(part("list-file").files[0], takeOther);
+  openFile(part("list-file").files[0], takeNow());
   part("list-file").value = "";
 }

@@ -24,15 +24,17 @@ const SAVED = "entrants.txt";
  * "saved". `before` has the list before each change that can be undone. `sent` promises whether the
  * worker has the list. `pending` is the timer until a changed list is sent. `turn` counts the changes:
  * an answer to an earlier one is not shown. `questions` are those that are open, and `kept` has those
- * that were answered by keeping the list. `reading` is the file that is being read or could not be read, or null.
+ * that were answered by keeping the list. `isUnread` says that the file could not be read. `opened` has the files that
+ * are being read, and the list to bring back if none of them is a list; or it is null.
  */
 const held = {
   file: null, name: "", bytes: new Uint8Array(0), origin: "unsaved", before: [], sent: Promise.resolve(false),
-  pending: 0, turn: 0, questions: [], kept: new Set(), reading: null,
+  pending: 0, turn: 0, questions: [], kept: new Set(), isUnread: false, opened: null,
 };
 
 /** The list as it is now: the file, or the text in the field. @returns {Uint8Array} */
 function listNow() {
+  if (held.isUnread) throw new Refusal("list cannot be read");
   return held.file ?? listOfText(part("list-text").value);
 }
 
@@ -89,6 +91,7 @@ function stopTimer() {
 function listChanged(pause) {
   hideResults();
   held.turn += 1;
+  held.opened = null;
   held.questions = [];
   setFacts(null);
   stopTimer();
@@ -103,7 +106,7 @@ function listChanged(pause) {
 function otherList(pause, origin) {
   held.before = [];
   held.origin = origin;
-  held.reading = null;
+  held.isUnread = false;
   listChanged(pause);
 }
 
@@ -134,38 +137,16 @@ export function askFirst() {
   if (held.questions.length > 0) throw new Refusal("list is a question");
 }
 
-/**
- * Reads a file, and sends it to the worker unless the list has changed meanwhile. If it is no list, brings the list
- * before it back.
- * @param {File} file @param {Object} before the list before it @param {Function} takeOther as in openFile
- * @returns {Promise<boolean>} as sendList
- */
-async function readFile(file, before, takeOther) {
-  const { turn } = held;
-  let bytes = null;
-  try {
-    bytes = new Uint8Array(await file.arrayBuffer());
-  } catch {
-    if (turn === held.turn) refuse(new Refusal("list cannot be read"));
-  }
-  if (bytes === null || turn !== held.turn) return false;
-  const kind = kindOfFile(bytes);
-  held.reading = null;
-  if (kind === "list") {
-    held.file = bytes;
-    return sendList();
-  }
-  const takeEarlier = (other, data) => { if (other !== kind) takeOther(other, data); };
-  if (before.reading) openFile(before.reading, takeEarlier);
-  else bringBack(before);
-  takeOther(kind, bytes);
-  return listSent();
+/** The list that is there, to be brought back. */
+function listAsItIs() {
+  const { file, name, origin, before, kept, isUnread } = held;
+  return { file, name, origin, before, kept: new Set(kept), isUnread };
 }
 
-/** Brings back the list that was there before a file was opened. @param {Object} before */
-function bringBack(before) {
-  Object.assign(held, before);
-  if (held.file === null) showOpened(false);
+/** Brings back a list that was there before. @param {Object} earlier */
+function bringBack(earlier) {
+  Object.assign(held, earlier);
+  if (held.file === null && !held.isUnread) showOpened(false);
   else showFile(held.name);
   listChanged(0);
 }
@@ -176,21 +157,77 @@ function bringBack(before) {
  */
 export function openFile(file, takeOther) {
   if (!file) return;
-  const { file: last, name, origin, before: changes, reading } = held;
-  const before = { file: last, name, origin, before: changes, reading, kept: new Set(held.kept) };
+  const { files, earlier } = held.opened ?? { files: [], earlier: listAsItIs() };
   held.kept.clear();
   otherList(PAUSE, "opened");
-  held.reading = file;
   stopTimer();
-  showFile(file.name);
-  say("file-name", `${file.name}, ${grouped(file.size)} bytes`);
-  held.sent = readFile(file, before, takeOther);
+  const opened = { name: file.name, size: file.size, sent: Promise.resolve(false) };
+  held.opened = { files: [...files, opened], earlier };
+  opened.sent = readFile(file, opened, takeOther);
+  waitFor(opened);
+}
+
+/** Shows the file that will be the list if it is one, and waits for it before a draw. */
+function waitFor({ name, size, sent }) {
+  showFile(name);
+  say("file-name", `${name}, ${grouped(size)} bytes`);
+  held.sent = sent;
+}
+
+/** Reads a file, and takes it as the list or as what it is. @returns {Promise<boolean>} as sendList */
+async function readFile(file, opened, takeOther) {
+  let bytes = null;
+  try {
+    bytes = new Uint8Array(await file.arrayBuffer());
+  } catch {
+    return takeList(opened, { file: null, isUnread: true });
+  }
+  const kind = kindOfFile(bytes);
+  if (kind === "list") return takeList(opened, { file: bytes, isUnread: false });
+  const isAwaited = leaveOut(opened);
+  takeOther(kind, bytes);
+  return isAwaited && listSent();
+}
+
+/**
+ * Takes a file as the list, unless the list has changed since it was opened. If other files were opened since, it is the
+ * list to bring back if they are none.
+ * @param {Object} opened @param {{file: ?Uint8Array, isUnread: boolean}} list @returns {Promise<boolean>} as sendList
+ */
+async function takeList(opened, list) {
+  const place = held.opened?.files.indexOf(opened) ?? -1;
+  if (place < 0) return false;
+  const files = held.opened.files.slice(place + 1);
+  if (files.length > 0) {
+    const earlier = { ...list, name: opened.name, origin: "opened", before: [], kept: new Set() };
+    held.opened = { files, earlier };
+    return false;
+  }
+  held.opened = null;
+  Object.assign(held, list);
+  return sendList();
+}
+
+/**
+ * Leaves out a file that is no list: another one that is being read may be it, and otherwise the list before comes back.
+ * @returns {boolean} whether the list had not changed since the file was opened
+ */
+function leaveOut(opened) {
+  if (!held.opened?.files.includes(opened)) return false;
+  const files = held.opened.files.filter((other) => other !== opened);
+  if (files.length === 0) bringBack(held.opened.earlier);
+  else {
+    held.opened.files = files;
+    waitFor(files[files.length - 1]);
+  }
+  return true;
 }
 
 /** Shows the name of a file in place of the field. @param {string} name */
 function showFile(name) {
   held.name = name;
   showOpened(true);
+  say("file-name", name);
 }
 
 /** Keeps a long pasted text as if it were a file. @param {ClipboardEvent} event */

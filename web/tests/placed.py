@@ -37,6 +37,17 @@ new MutationObserver(() => { window.told = document.getElementById("heard").text
   .observe(document.getElementById("heard"), { childList: true });
 """
 
+# Reads a file as slowly as its name says, in milliseconds; without a number at once. One named "lost" cannot be read.
+WAIT = """
+window.read = Blob.prototype.arrayBuffer;
+Blob.prototype.arrayBuffer = async function () {
+  const name = this.name ?? "";
+  await new Promise((done) => setTimeout(done, Number.parseInt(name, 10) || 0));
+  if (name.includes("lost")) throw new Error("lost");
+  return window.read.call(this);
+};
+"""
+
 
 def drop_all(page: Page, element: str, files: "List[tuple[str, bytes]]") -> None:
     page.browser.run(DROP_ALL, element, [[name, list(data)] for name, data in files])
@@ -177,21 +188,64 @@ def opened(counts: Counts, page: Page, texts: Dict[str, bytes]) -> None:
 
 
 def fast(counts: Counts, page: Page, texts: Dict[str, bytes]) -> None:
-    """Files that are opened one right after the other: both are taken, or of one kind the last one."""
+    """Files that are opened one right after the other, whichever of them is read first: all are taken, or of one kind the
+    last one."""
     other = {kind: data.replace(b"school", b"town").replace(b"Chidi", b"Cid") for kind, data in texts.items()}
     for first, last in ((one, two) for one in KINDS for two in KINDS):
-        begin(page, "check")
-        drop(page, "list-step", "first.txt", texts[first])
-        drop(page, "list-step", "last.txt", other[last])
         wanted = {**BEFORE, first: texts[first], last: other[last]}
         if "list" in (first, last):
             wanted["list"] = sha256(wanted["list"]).encode()
-        try:
-            wait_for(page, wanted)
-        except DriverError:
-            pass
-        time.sleep(0.2)
-        counts.same(f"{first} and {last}, fast", held(page), wanted)
+        for waits, place in ((waits, place) for waits in ((0, 0), (400, 0), (0, 400))
+                             for place in ("list-step", "check-hint")):
+            begin(page, "check")
+            page.browser.run(WAIT)
+            drop(page, place, f"{waits[0]}.txt", texts[first])
+            drop(page, place, f"{waits[1]}.txt", other[last])
+            try:
+                wait_for(page, wanted)
+            except DriverError:
+                pass
+            time.sleep(0.5)
+            counts.same(f"{first} and {last} on {place}, {waits}", held(page), wanted)
+
+
+def three_at_once(counts: Counts, page: Page, texts: Dict[str, bytes]) -> None:
+    """Three files opened one after the other, read in any order. A list that was typed before comes back as it was."""
+    for kinds in (("list", "announcement", "record"), ("announcement", "list", "record"),
+                  ("record", "announcement", "list"), ("record", "announcement", "record")):
+        for waits in permutations((0, 300, 600)):
+            page.load()
+            page.paste(OTHER_LIST.decode())
+            page.facts()
+            page.tab("check")
+            page.browser.run(WAIT)
+            for kind, wait in zip(kinds, waits):
+                drop(page, "list-step", f"{wait}.txt", texts[kind])
+            wanted = {"list": sha256(LIST if "list" in kinds else OTHER_LIST).encode(), "record": texts["record"],
+                      "announcement": texts["announcement"]}
+            try:
+                wait_for(page, wanted)
+            except DriverError:
+                pass
+            time.sleep(0.1)
+            name = f"{waits[kinds.index('list')]}.txt, {len(LIST)} bytes" if "list" in kinds else ""
+            counts.same(f"{kinds}, read after {waits}", [held(page), *seen(page, "file-name")], [wanted, name])
+
+
+def lost(counts: Counts, page: Page, texts: Dict[str, bytes]) -> None:
+    """A file that cannot be read stays an error when a record is opened after it, and goes with the next list."""
+    for waits in ((0, 0), (400, 0), (0, 400)):
+        begin(page, "check")
+        page.browser.run(WAIT)
+        drop(page, "list-step", f"{waits[0]}lost.txt", LIST)
+        drop(page, "list-step", f"{waits[1]}.txt", texts["record"])
+        page.browser.wait("return document.getElementById('check-text').value === arguments[0] && "
+                          "document.getElementById('list-error').checkVisibility();", texts["record"].decode())
+        time.sleep(0.1)
+        counts.same(f"a lost list, {waits}", [held(page), page.shown()["list"]],
+                    [{**BEFORE, "list": b"", "record": texts["record"]}, "The file cannot be read."])
+        drop(page, "list-step", "list.txt", LIST)
+        counts.same(f"the next one, {waits}", [page.facts()["digest"], page.shown()["list"]], [sha256(LIST), ""])
 
 
 def on_a_field(counts: Counts, page: Page, texts: Dict[str, bytes]) -> None:
@@ -361,7 +415,7 @@ def commands(counts: Counts, page: Page, texts: Dict[str, bytes], program: str) 
 def run(counts: Counts, page: Page, program: str, module: bytes) -> None:
     page.browser.size(1000, 900)
     texts = texts_of(program, module)
-    for part in (together, two_of_a_kind, together_for_a_draw, opened, fast, on_a_field, mails, uncompared, published,
+    for part in (together, two_of_a_kind, together_for_a_draw, opened, fast, three_at_once, lost, on_a_field, mails, uncompared, published,
                  marks):
         part(counts, page, texts)
     commands(counts, page, texts, program)

@@ -145,6 +145,21 @@ pub fn pcg64_cycles()
         → PeriodsAreMultiplesOf (2 ^ 126) pcg64.next pcg64.pcg64_block g }
 {}
 
+/// A `Pcg64` draws the same bytes as every other one with its seed, whatever their `state` and `inc`
+/// are. So one that `new_seed` makes from a stored seed draws what the stored one would have drawn.
+///
+/// `each`: after requests of the same sizes, the next request takes the same bytes from both.
+/// `all`: so do all requests of a list, one after another. `seeds`: a request leaves both with the
+/// same seed.
+pub fn pcg64_seed_decides()
+    ensures each { (g h : pcg64.Generator) → g.seed ≡ h.seed
+        → DeliverAlike pcg64_requests g pcg64_requests h }
+    ensures all { (g h : pcg64.Generator) (sizes : List ℕ) → g.seed ≡ h.seed
+        → taken_all pcg64_requests g sizes ≡ taken_all pcg64_requests h sizes }
+    ensures seeds { (g h : pcg64.Generator) (n : ℕ) → g.seed ≡ h.seed
+        → (pcg64_requests.after g n).seed ≡ (pcg64_requests.after h n).seed }
+{}
+
 /// The states of `ChaCha` form cycles of length 2^64, and the counter is the position in the cycle.
 ///
 /// `steps`, `more`, `adds`: `chacha_after n` is the state after n single draws, for every list as

@@ -309,7 +309,8 @@ where
         × (chosen.new ≡ items_at run.items numbers ++ drop (length numbers) chosen.old)
         × (length numbers ≡ min (length chosen.old) run.len)
         × All (λ number. number < run.len) numbers
-        × AllPairs (λ number other. number ≢ other) numbers) }
+        × AllPairs (λ number other. number ≢ other) numbers
+        × (run.whole ≡ is_ok result)) }
     ensures refusal { IfErr result (λ refusal. refusal ≡ Exhausted) }
     ensures words { SomeRun I.next_gives items (λ run. (n : ℕ)
         × (n ≤ word_limit * (run.len - length chosen.old))

@@ -1,7 +1,10 @@
 //! Short callers of the library, one for each use. They need no proofs of their own. `TASKS.md` of
 //! `nanorand` shows them. Larger callers have modules of their own.
-ghost use Rattle.std.specs.Prelude.{◌≡◌, ◌≢◌, ◌≤◌, ◌<◌, ◌+◌, ◌==◌, ◌++◌, [], All, count_by, length, Contains, OnOk, IfOk, IfErr, MatchResult, IsPermutation};
+ghost use Rattle.std.specs.Prelude.{◌≡◌, ◌≢◌, ℕ, List, drop, take, min, is_ok, ◌≤◌, ◌<◌, ◌+◌, ◌==◌, ◌++◌, [], All, count_by, length, Contains, OnOk, IfOk, IfErr, MatchResult, IsPermutation};
 ghost use Rattle.std.specs.List.{AllPairs};
+ghost use Rattle.std.specs.Iterator.{IsFinite};
+ghost use Rattle.std.specs.Iterator.Runs.{CountFits, SomeRun, WholeRun};
+ghost use Rattle.nanorand_core.specs.samples.Reservoir.{items_at};
 ghost use Rattle.std.specs.declared.ops.Bound.TheVariants.{Included};
 ghost use Rattle.nanorand_replay.specs.generators.Buffered.{buffered_taken};
 ghost use Rattle.nanorand_core.specs.values.Draws.{unsigned_outcome};
@@ -83,6 +86,29 @@ pub fn roll(rng: &mut WyRand) -> Result<u8, RangeError>
     ensures refusal { IfErr result (λ refusal. refusal ≡ RangeError.Exhausted) }
 {
     between(rng, 1, 6)
+}
+
+/// Throws a die with a `Pcg64`.
+pub fn roll_pcg64(rng: &mut Pcg64) -> Result<u8, RangeError>
+    ensures face { IfOk result (λ pips. (1 ≤ pips) × (pips ≤ 6)) }
+    ensures refusal { IfErr result (λ refusal. refusal ≡ RangeError.Exhausted) }
+{
+    between(rng, 1, 6)
+}
+
+/// Draws a percentage with a `Pcg64`.
+pub fn percent(rng: &mut Pcg64) -> Result<u32, RangeError>
+    ensures within { IfOk result (λ percent. percent ≤ 100) }
+    ensures refusal { IfErr result (λ refusal. refusal ≡ RangeError.Exhausted) }
+{
+    rng.generate_range(Bound::Included(0), Bound::Included(100))
+}
+
+/// Chooses an index by its weight with a `Pcg64`.
+pub fn weighted_pcg64(rng: &mut Pcg64, weights: &[u64]) -> Result<usize, WeightError>
+    ensures { IfOk result (λ index. index < length weights.now) }
+{
+    choose_weighted(rng, weights)
 }
 
 /// Tosses a coin. 2 is a power of two, so no word is rejected, and there is no error. The shortest
@@ -177,6 +203,31 @@ pub fn pick_lines<'a>(
     ensures refusal { IfErr result (λ refusal. refusal ≡ RangeError.Exhausted) }
 {
     reservoir(rng, log.lines(), lines)
+}
+
+/// Keeps some items of an iterator: as many as there are slots, or all of fewer items. If no draw
+/// fails, the kept ones are items of the whole iterator, from different places.
+pub fn keep<I: Iterator + Drop>(
+    rng: &mut WyRand,
+    items: I,
+    kept: &mut [I::Item],
+) -> Result<usize, RangeError>
+where
+    I::Item: Drop,
+    requires can { I.can_next items }
+    requires ends { IsFinite (I.remaining items) }
+    requires fits { CountFits I.next_gives I.remaining 0 items }
+    ensures filled { IfOk result (λ filled. WholeRun I.next_gives items (λ run.
+        (filled ≡ min (length kept.old) run.len)
+        × All (Contains run.items) (take filled kept.new))) }
+    ensures apart { SomeRun I.next_gives items (λ run. (places : List ℕ)
+        × (kept.new ≡ items_at run.items places ++ drop (length places) kept.old)
+        × (length places ≡ min (length kept.old) run.len)
+        × All (λ place. place < run.len) places
+        × AllPairs (λ place other. place ≢ other) places
+        × (run.whole ≡ is_ok result)) }
+{
+    reservoir(rng, items, kept)
 }
 
 /// Shuffles a hand to the front of a pack. No card is lost, even if the shuffle fails.

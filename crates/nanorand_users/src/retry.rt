@@ -6,7 +6,7 @@
 //! half is drawn.
 ghost use Rattle.std.specs.Prelude.{◌≡◌, ℕ, ◌*◌, ◌/◌, ◌≤◌, Err, EachIndex, length, slice_index, IfOk, IfErr};
 ghost use Rattle.std.specs.Result.{result_unwrap_or};
-ghost use Rattle.nanorand_core.specs.values.Draws.{after_words};
+ghost use Rattle.nanorand_core.specs.values.Draws.{after_limit, after_word, after_words};
 ghost use Rattle.nanorand_core.specs.declared.values.range.RangeError.TheVariants.{Exhausted};
 ghost use Rattle.nanorand_users.specs.Retry.{ceiling_after, delay_drawn, delays_after, state_after_delays};
 
@@ -25,7 +25,8 @@ pub fn try_delay<G: Rng<OUTPUT>, const OUTPUT: usize>(
     ensures ceiling { IfOk result (λ delay. delay ≤ ceiling) }
     ensures refusal { IfErr result (λ refusal. refusal ≡ Exhausted) }
     ensures words { (n : ℕ) × (n ≤ 128) × (rng.new ≡ after_words G.requests 64 n rng.old) }
-    ensures exhausted { result ≡ Err Exhausted → rng.new ≡ after_words G.requests 64 128 rng.old }
+    ensures exhausted { result ≡ Err Exhausted
+        → rng.new ≡ after_limit (after_word G.requests 64) rng.old }
 {
     between(rng, ceiling / 2, ceiling)
 }

@@ -1,5 +1,6 @@
 pub mod HexadecimalLemmas
 pub mod MixLemmas
+pub mod SeedDecidesLemmas
 pub mod SeedLemmas
 pub mod WordLemmas
 pub mod StreamLemmas

@@ -26,6 +26,10 @@ decided bits size words =
 abbrev pub word_limit : ℕ
 word_limit = 128
 
+-- The state after that many words. `after` is the state after one word.
+unfoldable pub after_limit : {G : Type 0} → (G → G) → G → G
+after_limit after g = iterate after word_limit g
+
 -- Draws from a source of words. `word` is the next word of a state, and `after` the state after it.
 module _ {G : Type 0} (word : G → ℕ) (after : G → G) where
   -- The next n words from a state.

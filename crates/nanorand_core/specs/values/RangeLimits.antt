@@ -6,7 +6,7 @@ use Rattle.std.specs.declared.ops.Bound.{Bound}
 use Rattle.nanorand_core.specs.generators.Blocks.{Requests}
 use Rattle.nanorand_core.specs.values.Range.{is_above, is_below, range_size, signed_rank, unsigned_rank, Admits, HasUnsigned, HasSigned}
 use Rattle.nanorand_core.specs.values.Runs.{rejected}
-use Rattle.nanorand_core.specs.values.Draws.{word_limit, after_word}
+use Rattle.nanorand_core.specs.values.Draws.{word_limit, after_limit, after_word}
 use Rattle.nanorand_core.specs.declared.values.range.RangeError.{RangeError}
 use Rattle.nanorand_core.specs.declared.values.range.RangeError.TheVariants.{Empty, Exhausted}
 
@@ -26,7 +26,7 @@ pub record KeepsLimits {G T : Type 0} (le lt : T → T → Bool) (bits : ℕ) (n
   -- After the error `Empty` the state is unchanged.
   pub empty : outcome.0 ≡ Err Empty → outcome.1 ≡ g
   -- After the error `Exhausted` the state is the one after exactly 128 words.
-  pub exhausted : outcome.0 ≡ Err Exhausted → outcome.1 ≡ iterate after word_limit g
+  pub exhausted : outcome.0 ≡ Err Exhausted → outcome.1 ≡ after_limit after g
 
 -- An outcome of a draw within two bounds of an integer type keeps the limits. This is `KeepsLimits`
 -- in a form that the proof of a caller can use by search. `HasNumber` compares the two bounds, and
@@ -46,7 +46,7 @@ pub record KeepsBounds {G T : Type 0} (le lt : T → T → Bool) (HasNumber : Bo
   -- After the error `Empty` the state is unchanged.
   pub empty : outcome.0 ≡ Err Empty → outcome.1 ≡ g
   -- After the error `Exhausted` the state is the one after exactly 128 words.
-  pub exhausted : outcome.0 ≡ Err Exhausted → outcome.1 ≡ iterate after word_limit g
+  pub exhausted : outcome.0 ≡ Err Exhausted → outcome.1 ≡ after_limit after g
 
 module _ {G : Type 0} (requests : Requests G) (bits : ℕ) where
   -- The same for two bounds of the unsigned type of `bits` bits.

@@ -4,7 +4,7 @@ ghost use Rattle.std.specs.Prelude.{◌≡◌, ℕ, ◌+◌, ◌-◌, ◌/◌, �
 ghost use Rattle.std.specs.declared.ops.Bound.TheVariants.{Excluded, Included, Unbounded};
 ghost use Rattle.nanorand_core.specs.values.Range.{range_within};
 ghost use Rattle.nanorand_core.specs.values.Runs.{rejected};
-ghost use Rattle.nanorand_core.specs.values.Draws.{word_limit, after_word, after_words, drawn_below, next_word, range_outcome};
+ghost use Rattle.nanorand_core.specs.values.Draws.{word_limit, after_limit, after_word, after_words, drawn_below, next_word, range_outcome};
 ghost use Rattle.nanorand_core.specs.choices.Uniform.{index_drawn};
 ghost use Rattle.nanorand_core.specs.declared.values.range.RangeError.TheVariants.{Empty, Exhausted};
 
@@ -72,7 +72,7 @@ pub fn between<T: Number, G: Rng<OUTPUT>, const OUTPUT: usize>(
     ensures words { (m : ℕ) × (m ≤ word_limit)
         × (rng.new ≡ after_words G.requests T.BITS m rng.old) }
     ensures exhausted { result ≡ Err Exhausted
-        → rng.new ≡ after_words G.requests T.BITS word_limit rng.old }
+        → rng.new ≡ after_limit (after_word G.requests T.BITS) rng.old }
 {
     draw_number(rng, Bound::Included(low), Bound::Included(high))
 }

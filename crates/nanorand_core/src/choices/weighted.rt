@@ -1,7 +1,7 @@
 //! Weighted choices. The weights are integers, and the choice is exact: no floating-point
 //! arithmetic is used.
 ghost use Rattle.std.specs.Prelude.{◌≡◌, ℕ, ◌^◌, ◌<◌, ◌≤◌, ◌↔◌, ◌⊎◌, length, slice_index, sum, Err, IfOk, IfSome};
-ghost use Rattle.nanorand_core.specs.values.Draws.{after_words};
+ghost use Rattle.nanorand_core.specs.values.Draws.{after_limit, after_word, after_words};
 ghost use Rattle.nanorand_core.specs.declared.choices.weighted.WeightError.TheVariants.{NoWeight, TooHeavy, Exhausted};
 ghost use Rattle.nanorand_core.specs.choices.Weighted.{IsInShare, choice_answer, choice_state, item_at, number_for, total_of};
 
@@ -55,7 +55,8 @@ pub fn choose_weighted<G: Rng<OUTPUT>, const OUTPUT: usize>(
     ensures no_weight { (result ≡ Err NoWeight) ↔ (sum weights.now ≡ 0) }
     ensures too_heavy { (result ≡ Err TooHeavy) ↔ (2 ^ 64 ≤ sum weights.now) }
     ensures undrawn { (result ≡ Err NoWeight) ⊎ (result ≡ Err TooHeavy) → rng.new ≡ rng.old }
-    ensures exhausted { result ≡ Err Exhausted → rng.new ≡ after_words G.requests 64 128 rng.old }
+    ensures exhausted { result ≡ Err Exhausted
+        → rng.new ≡ after_limit (after_word G.requests 64) rng.old }
     ensures words { (n : ℕ) × (n ≤ 128) × (rng.new ≡ after_words G.requests 64 n rng.old) }
 {
     let total = total_weight(weights)?;

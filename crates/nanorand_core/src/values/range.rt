@@ -3,7 +3,7 @@ ghost use Rattle.std.specs.Prelude.{◌≡◌, ℕ, ◌^◌, ◌<◌, ◌≤◌,
 ghost use Rattle.std.specs.declared.ops.Bound.{Bound};
 ghost use Rattle.nanorand_core.specs.values.Range.{end_rank, first_rank, is_above, is_below, range_size, range_within, Admits, IfBound, IsNumber};
 ghost use Rattle.nanorand_core.specs.values.Runs.{rejected};
-ghost use Rattle.nanorand_core.specs.values.Draws.{word_limit, after_words, range_outcome};
+ghost use Rattle.nanorand_core.specs.values.Draws.{word_limit, after_limit, after_word, after_words, range_outcome};
 ghost use Rattle.nanorand_core.specs.declared.values.range.RangeError.{RangeError};
 ghost use Rattle.nanorand_core.specs.declared.values.range.RangeError.TheVariants.{Empty, Exhausted};
 
@@ -84,7 +84,7 @@ pub fn draw_number<T: Number, G: Rng<OUTPUT>, const OUTPUT: usize>(
         → IfErr result (λ refusal. refusal ≡ Exhausted) }
     ensures empty { result ≡ Err Empty → rng.new ≡ rng.old }
     ensures exhausted { result ≡ Err Exhausted
-        → rng.new ≡ after_words G.requests T.BITS word_limit rng.old }
+        → rng.new ≡ after_limit (after_word G.requests T.BITS) rng.old }
     ensures divisor { let numbers = range_within T.le T.lt T.BITS T.number low high in
         rejected T.BITS (length numbers) ≡ 0 → IfErr result (λ refusal. refusal ≡ Empty) }
     ensures unrefused { let size = range_size T.rank T.BITS low high in

@@ -2,7 +2,7 @@
 //! numbers below a size.
 ghost use Rattle.std.specs.Prelude.{◌≡◌, ℕ, ◌*◌, ◌/◌, ◌%◌, ◌^◌, ◌<◌, ◌≤◌, nat_lt, MatchOption, IsSome, IfSome, IfNone};
 ghost use Rattle.nanorand_core.specs.values.Runs.{IsWordWidth, Names, named, rejected};
-ghost use Rattle.nanorand_core.specs.values.Draws.{word_limit, next_word, after_word, after_words, drawn_below};
+ghost use Rattle.nanorand_core.specs.values.Draws.{word_limit, after_limit, next_word, after_word, after_words, drawn_below};
 
 use crate::rand::Rng;
 use crate::values::RandomGen;
@@ -193,7 +193,7 @@ pub fn draw_below<G: Rng<OUTPUT>, const OUTPUT: usize>(
     ensures number { result ≡ (drawn_below G.requests bits size rng.old).number }
     ensures state { rng.new ≡ (drawn_below G.requests bits size rng.old).state }
     ensures words { (n : ℕ) × (n ≤ word_limit) × (rng.new ≡ after_words G.requests bits n rng.old) }
-    ensures exhausted { IfNone result (rng.new ≡ after_words G.requests bits word_limit rng.old) }
+    ensures exhausted { IfNone result (rng.new ≡ after_limit (after_word G.requests bits) rng.old) }
     ensures divisor { rejected bits size ≡ 0 → IsSome result }
 {
     let first = draw_word(rng, bits);

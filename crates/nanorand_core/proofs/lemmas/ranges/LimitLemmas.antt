@@ -13,7 +13,7 @@ use Rattle.std.proofs.lemmas.Option.{slice_get_within, get_or_from_slice_get, sl
 use Rattle.nanorand_core.specs.values.Runs.{named}
 use Rattle.nanorand_core.specs.values.Range.{is_above, is_below, range_within}
 use Rattle.nanorand_core.specs.values.RangeLimits.{KeepsLimits}
-use Rattle.nanorand_core.specs.values.Draws.{word_limit, deciding_place, words_from, number_drawn, left_after, value_drawn, left_by}
+use Rattle.nanorand_core.specs.values.Draws.{word_limit, after_limit, deciding_place, words_from, number_drawn, left_after, value_drawn, left_by}
 use Rattle.nanorand_core.specs.declared.values.range.RangeError.{RangeError}
 use Rattle.nanorand_core.specs.declared.values.range.RangeError.TheVariants.{Empty, Exhausted}
 use Rattle.nanorand_core.proofs.lemmas.ranges.DrawLemmas.{counted_words}
@@ -103,8 +103,8 @@ module _ {G T : Type 0} (word : G → ℕ) (after : G → G) (bits : ℕ) (numbe
         | inr some ↦ absurd (not_empty (option_and_then (slice_get numbers) (number_drawn word after word_limit bits (length numbers) g)) (rw some at refused))
       ]
 
-  left_exhausted : value_drawn word after bits numbers g ≡ Err Exhausted → left_by word after bits numbers g ≡ iterate after word_limit g
-  unfolding value_drawn left_by left_after
+  left_exhausted : value_drawn word after bits numbers g ≡ Err Exhausted → left_by word after bits numbers g ≡ after_limit after g
+  unfolding value_drawn left_by left_after after_limit
   left_exhausted refused =
       elim (cases_Bool (nat_eq (length numbers) 0)) [
         | inl none ↦ let clash : ◌≡◌ {A = Result T RangeError} (Err Empty) (Err Exhausted) = rw none at refused in absurd cc

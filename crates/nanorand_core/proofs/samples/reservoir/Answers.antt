@@ -35,7 +35,7 @@ returns-in_err-slot g c =
       sample = (part, refl, rw ended (refl, held, refl, refl, refl));
       filled = tt;
       refused = (part, refl, rw (take_all (length numbers) c.loop-item.chosen (omega (arith, h.long, full))) at (members _ _ _ numbers _ below refl held));
-      apart = (part, refl, (numbers, held, long, below, h.apart));
+      apart = (part, refl, (numbers, held, long, below, h.apart, refl));
       refusal = refused.1;
       words = (part, refl, words-refused requests start old item h full _ c.slot_for.ensures.words);
     })
@@ -93,7 +93,7 @@ returns g c =
       sample = (all, refl, rw h.pass (ap (λ (n : ℕ). Ok n) answer, h.held, refl, refl, refl));
       filled = (all, refl, refl, (answer ∙ h.long, members _ _ _ numbers _ h.below (sym answer) h.held));
       refused = tt;
-      apart = (all, refl, (numbers, h.held, h.long, h.below, h.apart));
+      apart = (all, refl, (numbers, h.held, h.long, h.below, h.apart, refl));
       refusal = tt;
       words = (all, refl, h.words);
     }

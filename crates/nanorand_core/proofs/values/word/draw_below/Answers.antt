@@ -1,7 +1,7 @@
 use Rattle.std.proofs.Common.{ℕ, ◌≡◌, ◌%◌, ◌^◌, ◌<◌, Some, false, nat_lt, refl, sym, ◌∙◌, arith}
 use Rattle.std.proofs.lemmas.Nat.{one_shl}
 use Rattle.nanorand_core.specs.values.Runs.{named}
-use Rattle.nanorand_core.specs.values.Draws.{word_limit, after_word}
+use Rattle.nanorand_core.specs.values.Draws.{word_limit, after_limit, after_word}
 use Rattle.nanorand_core.specs.values.Draws.{next_word as word_of}
 use Rattle.nanorand_core.proofs.lemmas.ranges.RunLemmas.{names-itself, judged, named-judged, judged-low, judged-past, judged-is_some}
 use Rattle.nanorand_core.proofs.lemmas.ranges.DrawLemmas.{Ended, first_word, next_word, last_word, counted_words}
@@ -84,6 +84,12 @@ returns-then-low_is_below-clause-number g c =
 
 pub returns-then-low_is_below-clause-state : goal.returns-then-low_is_below-clause-state
 returns-then-low_is_below-clause-state g c = (refused g c).state
+
+pub returns-then-low_is_below-clause-exhausted : goal.returns-then-low_is_below-clause-exhausted
+unfolding after_limit
+returns-then-low_is_below-clause-exhausted g c =
+    let low = rw c.rejected-rejects.ensures at (sym c.low_is_below-2.ensures ∙ c.if-low_is_below.true) in
+    rw (judged-low c.args.bits c.args.size c.others.product low) at (refused g c).exhausted
 
 pub returns-clause-words : goal.returns-clause-words
 returns-clause-words g c = counted_words _ _ _ _ _ _ _ (found g c).state
