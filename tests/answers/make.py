@@ -27,7 +27,11 @@ HEAD = """\
 def table():
     lines = []
     for generator, before, call, arguments in rows.rows():
-        status, result, after = calls.answer(generator, before, call, arguments)
+        try:
+            status, result, after = calls.answer(generator, before, call, arguments)
+        except calls.rules.Refused:
+            sys.exit(f"tests/answers/make.py: 128 words in a row are rejected in the row {generator} {before} {call} "
+                     f"{arguments}: take another state in tests/answers/rows.py")
         row = generator, before, call, arguments, str(status), result, after
         lines.append("\t".join(row) + "\n")
     return HEAD + "".join(lines)

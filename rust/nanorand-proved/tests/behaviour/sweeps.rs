@@ -95,7 +95,8 @@ fn bytes_of_words(count: usize) -> Vec<u8> {
 
 #[test]
 fn generators_are_made_of_any_bytes() {
-    let bytes = bytes_of_words(80_000);
+    // A case takes eight words: one for `WyRand`, two for `Pcg64` and five for `ChaCha20`.
+    let bytes = bytes_of_words(8 * 10_000);
     for piece in [1, 50] {
         let mut source = Pieces::of(&bytes, piece);
         for case in 0..10_000 {
