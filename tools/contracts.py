@@ -9,7 +9,8 @@
 The page is made from the sources. It has each public item of the library, of the programs and of the C exports, with
 its comment, signature and clauses; each definition in `specs/`; and each promise in docs/PROMISES.md. A name in a
 clause or a definition links to its definition. --check compares the page with the sources, and the signatures, clauses
-and definitions of each file with the file's sum in tools/contracts.sums, so that no change goes unnoticed.
+and definitions of each file, also of users' programs and of tests, with the file's sum in tools/contracts.sums, so that
+no change goes unnoticed.
 """
 
 import hashlib
@@ -39,6 +40,9 @@ CRATES = {
     "nanorand_calls": "The calls as C makes them: a status, and what is written",
     "nanorand_c": "The exports for C, Python and the page",
 }
+# The crates that have sums: also those of users' programs and of tests, which the page does not show.
+SUMMED = (*CRATES, "nanorand_users", "nanorand_rand_users", "dice", "rand_dice", "test_support", "nanorand_tests",
+          "program_tests")
 # A crate whose mutants are wrong implementations of the library's traits by a user.
 EXAMPLES = {"nanorand_users"}
 TYPES = ("struct", "enum", "trait", "type", "const")
@@ -236,10 +240,10 @@ def cited(book, name):
     return f'<a href="#{named[0].anchor}"><code>{name}</code></a>' if len(named) == 1 else f"<code>{name}</code>"
 
 
-def made():
-    """The book of all sources."""
+def made(crates=CRATES):
+    """The book of the sources of these crates."""
     book = Book()
-    for crate in CRATES:
+    for crate in crates:
         for path in sorted((ROOT / "crates" / crate / "src").rglob("*.rt")):
             add_source(book, crate, path)
         for path in sorted((ROOT / "crates" / crate / "specs").rglob("*.antt")):
@@ -326,11 +330,11 @@ def sum_of(entries):
     return hashlib.sha256("\n".join(map(" ".join, words)).encode()).hexdigest()[:16]
 
 
-def check_sums(book):
+def check_sums():
     """The number of files with the recorded sums, and the other files."""
     lines = SUMS.read_text(encoding="utf-8").splitlines()
     written = {name: one for one, name in (line.split() for line in lines if not line.startswith("#"))}
-    found = sums(book)
+    found = sums(made(SUMMED))
     names = found.keys() | written.keys()
     wrong = sorted(name for name in names if found.get(name) != written.get(name))
     return len(names) - len(wrong), wrong
@@ -338,7 +342,7 @@ def check_sums(book):
 
 def check_all(book, html):
     passed, missing = check(book, html)
-    same, changed = check_sums(book)
+    same, changed = check_sums()
     for one in missing:
         print(f"FAILED the book lacks {one}")
     for one in changed:
@@ -351,11 +355,11 @@ def check_all(book, html):
 def main():
     if len(sys.argv) > 2 or sys.argv[1:2] and sys.argv[1].startswith("-") and sys.argv[1] not in ("--check", "--sums"):
         sys.exit(__doc__)
-    book = made()
     if sys.argv[1:] == ["--sums"]:
-        lines = [f"{one}  {name}\n" for name, one in sums(book).items()]
+        lines = [f"{one}  {name}\n" for name, one in sums(made(SUMMED)).items()]
         SUMS.write_text(SUMS_HEAD + "".join(lines), encoding="utf-8")
         return 0
+    book = made()
     html = page(book)
     if sys.argv[1:] == ["--check"]:
         return check_all(book, html)

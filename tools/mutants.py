@@ -1,7 +1,10 @@
 #!/usr/bin/env python3
-"""Tries the mutants: tools/mutants.py [CRATE | CRATE/NAME]..; without arguments, all of them.
+"""Tries the mutants: tools/mutants.py [--anew] [CRATE | CRATE/NAME]..; without names, all of them.
 
 For example, tools/mutants.py nanorand_core. edits.py describes how a mutant is written, and what has to refuse it.
+A stored answer that no longer fits refuses a mutant, even if the clause has another proof. --anew leaves out the stored
+answers of the clauses that a mutant names, so that the prover searches for each: a clause that it proves then is not
+one that the mutant breaks.
 
 The mutants of a crate that change different functions are planted together in a copy of the crate. A check of these
 functions and what they call has to refuse each one by itself, at every clause that its file names. A mutant that is
@@ -35,6 +38,8 @@ ROOT = Path(__file__).resolve().parent.parent
 PROVED = Path(os.environ.get("PROVED", ROOT))
 KIT = crates.kit()
 LANES = int(os.environ.get("LANES", "1"))
+
+ANEW = "--anew" in sys.argv[1:]
 
 VERDICT = re.compile(r"^fn (\S+): (.*)$", re.M)
 PASSED, FAILED, AGAIN = "", "FAILED ", "again: "
@@ -113,6 +118,11 @@ class Mutant:
         """The names with which a check is asked for the functions that have to be refused."""
         return {self.function} if self.function else {one.name.partition("::")[2] for one in self.functions}
 
+    def names(self, answer, function):
+        """Whether an answer, as a file of answers has it, is one to a clause that the mutant names."""
+        goal = re.search(r"^pub (returns[\w-]*) : goal\.", answer, re.M)
+        return bool(goal) and ("returns" in self.clauses or clause_of(goal[1], function, self.crate) in self.clauses)
+
     def is_alone(self):
         """Whether it has to be tried alone: it changes more than only definitions, or only bodies without naming their
         function."""
@@ -189,6 +199,17 @@ def planted(crate, mutants):
         path = crate / file
         text = texts.setdefault(path, path.read_text(encoding="utf-8"))
         texts[path] = text[:start] + new + text[end:]
+    return {**texts, **left_out(crate, mutants)} if ANEW else texts
+
+
+def left_out(crate, mutants):
+    """The files of answers without those of the clauses that the mutants name."""
+    texts = {}
+    for one, function in ((one, function.name) for one in mutants for function in functions_of(one.crate)):
+        path = crate.joinpath("proofs", *function.split("::")[1:], "Answers.antt")
+        if one.is_refused_at(function) and path.is_file():
+            parts = texts.get(path, path.read_text(encoding="utf-8")).split("\n\n")
+            texts[path] = "\n\n".join(part for part in parts if not one.names(part, function))
     return texts
 
 
@@ -314,7 +335,8 @@ def chosen(names):
 
 def main():
     with ThreadPoolExecutor(LANES) as pool:
-        tried = list(pool.map(lambda one: try_crate(*one), chosen(sys.argv[1:]).items()))
+        names = [word for word in sys.argv[1:] if word != "--anew"]
+        tried = list(pool.map(lambda one: try_crate(*one), chosen(names).items()))
     failed = [one.name for _, wrong in tried for one in wrong]
     for name in failed:
         print(f"FAILED {name}")

@@ -12,6 +12,21 @@ const PICTURE = /\p{Extended_Pictographic}/u;
 const PICTURE_END = /[\p{Extended_Pictographic}\p{Emoji_Modifier}\ufe0f]/u;
 const TAG = /[\u{e0020}-\u{e007f}]/u;
 
+/** What `flaggedIn` has returned for a text: a text of many tags would take quadratic time. */
+const FLAGGED = new WeakMap();
+
+/** For each character of a text, whether it is a black flag or a tag that follows one, with only tags between. */
+function flaggedIn(letters) {
+  if (!FLAGGED.has(letters)) {
+    let isFlagged = false;
+    FLAGGED.set(letters, letters.map((letter) => {
+      isFlagged = letter === "\u{1f3f4}" || isFlagged && TAG.test(letter);
+      return isFlagged;
+    }));
+  }
+  return FLAGGED.get(letters);
+}
+
 /** Whether an invisible character joins its neighbours or selects how they look. */
 function joins(letters, place) {
   const letter = letters[place];
@@ -21,10 +36,7 @@ function joins(letters, place) {
   if (letter === "\u200c") return isBetweenLetters;
   if (letter === "\u200d") return isBetweenLetters || isBetweenPictures;
   if (letter === "\ufe0f") return PICTURE.test(before) || after === "\u20e3";
-  if (!TAG.test(letter)) return false;
-  let first = place;
-  while (first > 0 && TAG.test(letters[first])) first -= 1;
-  return letters[first] === "\u{1f3f4}";
+  return TAG.test(letter) && flaggedIn(letters)[place];
 }
 
 /** Whether a character is visible at its place in a text. A space at either end is not. */

@@ -16,6 +16,8 @@ export const NAMED = 1000;
 
 /** The greatest number of lines into which a value may be folded. */
 const MOST_FOLDS = 2000;
+/** The greatest number of letters in which the end of a folded value is sought. */
+const MOST_TRIED = 2_000_000;
 
 /**
  * A line with a value.
@@ -73,10 +75,12 @@ export function readLine(lines, index, { name, read, joint, reason = reasonIn },
   const line = lines[index] ?? "";
   if (!hasName(line, name)) throw new RecordError(index + 1, `“${name}: ” is missing.${reasonIn(line)}`);
   let text = line.slice(name.length + 2);
+  let tried = 0;
   for (let next = index + 1; ; next += 1) {
     const value = read(text);
     if (value !== null) return { value, next };
-    if (!goesOn(lines[next]) || next - index > MOST_FOLDS) {
+    if (text.endsWith("\"")) tried += text.length;
+    if (!goesOn(lines[next]) || next - index > MOST_FOLDS || tried > MOST_TRIED) {
       throw new RecordError(index + 1, `the value of “${name}” cannot be read.${reason(text)}`);
     }
     text += (text && joint) + lines[next];

@@ -27,7 +27,8 @@ function markedAt(letters, place) {
   while (end < letters.length && COMBINING.test(letters[end])) end += 1;
   const [first, last] = [Math.max(0, place - AROUND), Math.min(letters.length, end + AROUND)];
   const parts = partsOf(letters.slice(first, last), place - first, end - first);
-  return { isText: true, parts: [first > 0 && "…", ...parts, last < letters.length && "…"].filter(Boolean) };
+  const shown = [first > 0 && "…", ...parts, last < letters.length && "…"];
+  return { isText: true, parts: shown.filter((part) => part !== false) };
 }
 
 /**

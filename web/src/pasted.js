@@ -35,7 +35,8 @@ const HIDDEN = /[^\p{L}\p{N}]|\p{Default_Ignorable_Code_Point}/gu;
 const LINE_ENDS = /[\v\f\r\u0085\u2028\u2029]/u;
 /** Marks that make a line look like another one: they change the order of its letters. */
 const REORDERING = /[\u202a-\u202e\u2066-\u2069]/u;
-const COLONS = /[:\ua789\u0589\u2236\ufe55\uff1a]/u;
+/** A colon, and what looks like one by the list of confusable characters of Unicode (UTS 39). */
+const COLONS = /[:\u02d0\u02f8\u0589\u05c3\u0703\u0704\u16ec\u1803\u1809\u205a\u2236\ua4fd\ua789\ufe13\ufe30\ufe55\uff1a]/u;
 
 /**
  * What a reader sees of a text: its letters and digits in lower case, without accents, signs,

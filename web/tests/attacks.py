@@ -13,6 +13,8 @@ NAMES = ["Zoë O'Neil-Fisher", "Ada B. Ito", "Finn A1", "Chidi Ivo", "Ona Aa 7",
 LIST = "".join(f"{name}\n" for name in NAMES)
 SEED = "Zoë's first throw: 4-1-6 3 1"
 NUMBER = 2000
+# A colon, and what looks like one.
+COLONS = ":\u02d0\u02f8\u0589\u05c3\u0703\u0704\u16ec\u1803\u1809\u205a\u2236\ua4fd\ua789\ufe13\ufe30\ufe55\uff1a"
 # Letters that mutations put into a record.
 LETTERS = [*"0123456789abcdefxyzAZ\\\":. >-'\n\t", "\u0430", "\u2019", "\u201c", "ë"]
 
@@ -198,7 +200,8 @@ def beside_a_record(counts: Counts, page: Page, record: str) -> None:
     lines = record.split("\n")
     looks = [
         "9:\u00a0Mallory", "\u200b9: Mallory", "9\u200b: Mallory", " 9: Mallory", "9:\tMallory", "9 : Mallory",
-        "9:Mallory", "\uff19: Mallory", "\u0669: Mallory", "9\uff1a Mallory", "9:", "\u202eyrollaM :9",
+        "9:Mallory", "\uff19: Mallory", "\u0669: Mallory", "9:", "\u202eyrollaM :9",
+        *(f"{before}{colon} Mallory" for colon in COLONS for before in ("9", "seed")),
         "and\u00a01 more",
         "And 1 more", "drawn: 4", "Drawn : 4", "result SHA-256: 00", "se\u200bed: x", "s\u0435ed: x",
         "list sha256: 00", "version: 2", "announcement SHA-256: none", "Announcement SHA256 : x", "end of the record",

@@ -1,6 +1,7 @@
 """Late answers, for a list, a file, a record or a field that has changed meanwhile, and errors whose cause is gone."""
 
 import failures
+from announcing import begun
 from counts import Counts, sha256
 from page import Page
 
@@ -47,6 +48,16 @@ Worker.prototype.postMessage = function (...sent) {
   post.apply(this, sent);
   if (before === "tidy") queueMicrotask(() => put("list-text", text));
   before = sent[0].task;
+};
+"""
+# Puts a text into a field as soon as the worker was asked for the SHA-256 of an announcement.
+REPLACED_FIELD = """
+const [field, value] = arguments;
+const post = Worker.prototype.postMessage;
+Worker.prototype.postMessage = function (...sent) {
+  post.apply(this, sent);
+  window.isAsked ||= sent[0].task === "digest";
+  if (sent[0].task === "digest") queueMicrotask(() => put(field, value));
 };
 """
 LARGE = "\n".join(str(number) for number in range(60_000)) + "\n"
@@ -151,6 +162,18 @@ def refusals_of_older_fields(counts: Counts, page: Page) -> None:
         counts.same(f"{name}: the keyboard", page.browser.run("return document.activeElement.id;"), "open-file")
 
 
+def announcements_of_older_fields(counts: Counts, page: Page) -> None:
+    """An announcement whose SHA-256 arrives after a field has changed is not shown, and is not saved."""
+    for field, value in (("occasion", "Another one"), ("winners", "2"), ("list-text", "Ada\nBob\nCid\n")):
+        begun(page)
+        page.browser.run(SET)
+        page.browser.run(REPLACED_FIELD, field, value)
+        page.browser.run('document.getElementById("save-announcement").click();')
+        idle(page)
+        found = page.browser.run("return [window.isAsked, document.getElementById('announcement').checkVisibility()];")
+        counts.same(f"an announcement before another {field}", found, [True, False])
+
+
 def lists_changed_while_tidied(counts: Counts, page: Page) -> None:
     """A list that changes while equal lines are removed from it keeps the change."""
     page.load()
@@ -219,6 +242,7 @@ def run(counts: Counts, page: Page) -> None:
     files_read_late(counts, page)
     checks_of_older_records(counts, page)
     refusals_of_older_fields(counts, page)
+    announcements_of_older_fields(counts, page)
     lists_changed_while_tidied(counts, page)
     lists_changed_after_tidied(counts, page)
     errors_that_are_over(counts, page)

@@ -467,6 +467,9 @@ function longSpaces() {
     ["a heading", () => questionsOf(utf8(`a${spaces}b\nc\nd\n`))],
     ["a list", () => warningsOf(utf8(`a${spaces}b\nc\nd\n`))],
     ["a list to trim", () => tidied(utf8(`a${spaces}b\n`), "trim")],
+    ["an entrant of tags", () => shown(utf8(`a${"\u{e0067}".repeat(200000)}b`))],
+    ["an entrant of tags after a flag", () => kindsIn(`a\u{1f3f4}${"\u{e0067}".repeat(200000)}b`)],
+    ["a seed that does not end", () => namedIn(record.replace('"a seed"', `"x${`\n${"y".repeat(500)}\u200b"`.repeat(1999)}`))],
   ]) {
     const begun = performance.now();
     act();
@@ -475,8 +478,20 @@ function longSpaces() {
   }
 }
 
+/** Values at the ends of what is told apart. */
+function limits() {
+  const cutOf = (length) => previewOf(utf8(`${"a".repeat(length)}\n`), 1)[0].isCut;
+  same("a preview of 200 and of 201 bytes", [cutOf(200), cutOf(201)], [false, true]);
+  const lengths = (length) => formDifferences("a".repeat(length - 1), "a".repeat(length)).length;
+  same("another length of 15 and of 16", [lengths(15), lengths(16)], [0, 1]);
+  const isEnough = (seeds) => enoughWords({ entrants: 6, winners: 1 }, { seeds, words: "w" }).includes("That is enough.");
+  same("as many seeds as sets, and fewer", [isEnough(6n), isEnough(5n)], [true, false]);
+  same("U+0000 beside a mark", markedPair("a\0b", "a\0B")[0].parts, ["a", 0, [98]]);
+}
+
 errors();
 longSpaces();
+limits();
 statuses();
 versions();
 folds1();

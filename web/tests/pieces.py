@@ -8,7 +8,7 @@ from counts import ALL_UNSEEN, Counts
 from glue import build
 from page import Page
 
-SCRIPTS = ("record", "warnings", "questions", "module", "client", "check", "tidy")
+SCRIPTS = ("record", "warnings", "questions", "module", "client", "check", "tidy", "list", "form", "enough")
 # Characters for which Unicode has no name, or one that is less clear.
 NAMES = {
     0x00: "null", 0x09: "tab", 0x0d: "carriage return", 0x7f: "delete", 0x2800: "empty Braille pattern",

@@ -188,7 +188,7 @@ def opened(counts: Counts, page: Page, texts: Dict[str, bytes]) -> None:
 
 
 def fast(counts: Counts, page: Page, texts: Dict[str, bytes]) -> None:
-    """Files that are opened one right after the other, whichever of them is read first: all are taken, or of one kind the
+    """Files that are opened one after another, whichever of them is read first: all are taken, or of one kind the
     last one."""
     other = {kind: data.replace(b"school", b"town").replace(b"Chidi", b"Cid") for kind, data in texts.items()}
     for first, last in ((one, two) for one in KINDS for two in KINDS):
@@ -415,8 +415,8 @@ def commands(counts: Counts, page: Page, texts: Dict[str, bytes], program: str) 
 def run(counts: Counts, page: Page, program: str, module: bytes) -> None:
     page.browser.size(1000, 900)
     texts = texts_of(program, module)
-    for part in (together, two_of_a_kind, together_for_a_draw, opened, fast, three_at_once, lost, on_a_field, mails, uncompared, published,
-                 marks):
+    for part in (together, two_of_a_kind, together_for_a_draw, opened, fast, three_at_once, lost, on_a_field, mails,
+                 uncompared, published, marks):
         part(counts, page, texts)
     commands(counts, page, texts, program)
     page.load()

@@ -97,9 +97,10 @@ pub fn run<A: Allocator, R: Read, W: Write>(
 }
 
 /// Returns the exit status of a result. If the result is an error, it is written as one line to
-/// `err`; a failure to write that line is ignored.
+/// `err`; a failure to write that line is ignored. After success nothing is written.
 pub fn report<W: Write>(outcome: Result<(), LotsError>, err: &mut W) -> u8
-    ensures { result ≡ status_of outcome }
+    ensures status { result ≡ status_of outcome }
+    ensures quiet { OnOk outcome (err.new ≡ err.old) }
 {
     let Err(error) = outcome else {
         return 0;

@@ -177,9 +177,10 @@ pub fn check_record<A: Allocator, R: Read, W: Write>(
 }
 
 /// Returns the exit status of a check. If the result is an error, it is written as one line to
-/// `err`; a failure to write that line is ignored.
+/// `err`; a failure to write that line is ignored. After success nothing is written.
 pub fn report_check<W: Write>(outcome: Result<(), CheckError>, err: &mut W) -> u8
-    ensures { result ≡ spec.check_status outcome }
+    ensures status { result ≡ spec.check_status outcome }
+    ensures quiet { OnOk outcome (err.new ≡ err.old) }
 {
     let Err(error) = outcome else {
         return 0;

@@ -113,8 +113,8 @@ pub fn words_as_numbers()
     ensures pcg64_state { (g : pcg64.Generator) → pcg64_requests.after g 8 ≡ pcg64.pcg64_after 1 g }
 {}
 
-/// The seeds of `Pcg64` form four cycles of length 2^126 each, and the periods of its blocks are
-/// exactly the multiples of 2^126.
+/// Each seed of `Pcg64` is on a cycle of length 2^126 (there are four, by `pcg64_reach`), and the
+/// periods of its blocks are exactly the multiples of 2^126.
 ///
 /// `steps`, `more`, `adds`: `pcg64_after n` is the generator after n single draws. `closed`,
 /// `seeds`: from a seed, or if n is at least 1, its seed equals the closed form `seed_after n`.
