@@ -3,8 +3,8 @@
 
 For example, tools/mutants.py nanorand_core. edits.py describes how a mutant is written, and what has to refuse it.
 A stored answer that no longer fits refuses a mutant, even if the clause has another proof. --anew leaves out the stored
-answers of the clauses that a mutant names, so that the prover searches for each: a clause that it proves then is not
-one that the mutant breaks.
+answers to the clauses of the functions that are changed, so that the prover searches for each: a clause that it proves
+then is not one that the mutant breaks.
 
 The mutants of a crate that change different functions are planted together in a copy of the crate. A check of these
 functions and what they call has to refuse each one by itself, at every clause that its file names. A mutant that is
@@ -118,11 +118,6 @@ class Mutant:
         """The names with which a check is asked for the functions that have to be refused."""
         return {self.function} if self.function else {one.name.partition("::")[2] for one in self.functions}
 
-    def names(self, answer, function):
-        """Whether an answer, as a file of answers has it, is one to a clause that the mutant names."""
-        goal = re.search(r"^pub (returns[\w-]*) : goal\.", answer, re.M)
-        return bool(goal) and ("returns" in self.clauses or clause_of(goal[1], function, self.crate) in self.clauses)
-
     def is_alone(self):
         """Whether it has to be tried alone: it changes more than only definitions, or only bodies without naming their
         function."""
@@ -203,13 +198,13 @@ def planted(crate, mutants):
 
 
 def left_out(crate, mutants):
-    """The files of answers without those of the clauses that the mutants name."""
+    """The files of answers of the functions that have to be refused, without the answers to clauses."""
     texts = {}
-    for one, function in ((one, function.name) for one in mutants for function in functions_of(one.crate)):
+    for function in (one.name for one in functions_of(mutants[0].crate)):
         path = crate.joinpath("proofs", *function.split("::")[1:], "Answers.antt")
-        if one.is_refused_at(function) and path.is_file():
-            parts = texts.get(path, path.read_text(encoding="utf-8")).split("\n\n")
-            texts[path] = "\n\n".join(part for part in parts if not one.names(part, function))
+        if any(one.is_refused_at(function) for one in mutants) and path.is_file():
+            answers = path.read_text(encoding="utf-8").split("\n\n")
+            texts[path] = "\n\n".join(one for one in answers if not re.search(r"^pub returns", one, re.M))
     return texts
 
 
