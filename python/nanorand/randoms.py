@@ -49,8 +49,8 @@ Seed = Union[None, SupportsIndex, float, str, bytes, bytearray]
 class GeneratorRandom(BaseRandom):
     """Base class of the classes of this module, which draw from `generator`.
 
-    `x` is the seed, as of `seed`; it can also be passed as `seed`. Copies and pickles keep the
-    attributes of a subclass.
+    `x` is the seed, as the method `seed` takes it; it can also be passed by the name `seed`. Copies
+    and pickles keep the attributes of a subclass.
 
     >>> WyRandRandom("seed 42").generator
     WyRand(0xd95fc6fdf7c1b745)

@@ -25,13 +25,13 @@ pub struct PastPeriod;
 ///
 /// - No state occurs twice within the period. So no state occurs in two parts of the same length of
 ///   one stream (`laws::all_parts_are_apart`).
-/// - From some draw on, the states repeat after the period.
-/// - After a request (one read of n bytes), the state is one after whole draws, or a further
-///   request of fewer than eight bytes brings it to one. From the state before the request to there
-///   it is at most n / 8 draws, rounded up, and at least one if n is not 0.
+/// - From some draw on, each state comes again one period later.
+/// - After a request (one read of n bytes), the state is one that a whole number of draws leads to,
+///   or a further request of fewer than eight bytes leads to such a state. From the state before
+///   the request, this number of draws is at most n / 8, rounded up, and at least 1 if n is not 0.
 ///
-/// These statements are about the states after whole draws. The states within a draw are
-/// unspecified. Two different states may draw the same numbers. `laws::wyrand_cycle` and
+/// These statements are about the states after a whole number of draws. The states within a draw
+/// are unspecified. Two different states may draw the same numbers. `laws::wyrand_cycle` and
 /// `laws::pcg64_cycles` prove that the blocks of `WyRand` and `Pcg64` have no smaller period. For
 /// the blocks of ChaCha this is not known.
 pub trait Parts<const OUTPUT: usize>: Rng<OUTPUT> {

@@ -15,7 +15,8 @@ use crate::values::{RandomRange, RangeError};
 use std::ops::Bound;
 
 /// Draws a sample without replacement: `places.len()` different numbers below `count`, one into
-/// each slot. `count` is the size of the population, whose members are numbered from 0.
+/// each slot (item) of `places`. `count` is the size of the population, whose members are numbered
+/// from 0.
 ///
 /// This is Robert Floyd's algorithm (Bentley and Floyd, "Programming Pearls: a Sample of
 /// Brilliance", Communications of the ACM 30(9), 1987), which needs no memory apart from the slots.

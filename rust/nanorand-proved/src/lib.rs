@@ -161,8 +161,8 @@
 //! # Features
 //!
 //! The feature `std` is on by default. It adds readers, vectors, `std::error::Error`, `Default` and
-//! seeds from the operating system. It also lets `sample` use a table, which makes it linear in
-//! time. Without `std` the crate is `no_std` and allocates nothing.
+//! seeds from the operating system. It also lets `sample` use a table, which makes its expected
+//! time linear. Without `std` the crate is `no_std` and allocates nothing.
 //!
 //! The crate `nanorand-proved-rand-core` implements the traits of `rand_core` 0.6.
 #![no_std]

@@ -271,12 +271,13 @@ pub trait Rng<const OUTPUT: usize = 8>: Sized {
     }
 
     /// Draws a sample without replacement from the numbers 0, 1, .., `count` - 1 (so `count` is the
-    /// size of the population), one number into each slot, as [`sample`](samples::sample) does.
+    /// size of the population), one number into each slot (item) of `places`, as
+    /// [`sample`](samples::sample) does.
     ///
-    /// The order of the slots is not random: [`permute`](Self::permute) them if it matters, as
-    /// after `choose_multiple` of `rand`. The expected time is O(k) for k slots; without the
-    /// feature `std`, or without memory for a table, it is O(k^2). If there are no slots, nothing
-    /// is drawn.
+    /// The order of the slots is not random, unlike that of `choose_multiple` of a slice in `rand`:
+    /// [`permute`](Self::permute) them if it matters. The expected time is O(k) for k slots;
+    /// without the feature `std`, or without memory for a table, it is O(k^2). If there are no
+    /// slots, nothing is drawn.
     ///
     /// # Errors
     ///

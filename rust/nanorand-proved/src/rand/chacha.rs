@@ -25,7 +25,7 @@ pub type ChaCha12 = ChaCha<12>;
 /// numbers, use [`ChaCha20Stream`](crate::ChaCha20Stream). See [`ChaCha`].
 pub type ChaCha20 = ChaCha<20>;
 
-/// The keystream of the stream cipher ChaCha by whole blocks of 64 bytes: **for numbers, use a
+/// The keystream of the stream cipher ChaCha in whole blocks of 64 bytes: **for numbers, use a
 /// stream such as [`ChaCha20Stream`](crate::ChaCha20Stream), which is some 25 times as fast.**
 ///
 /// It has a 64-bit counter and a 64-bit nonce, after Daniel J. Bernstein, "ChaCha, a variant of
