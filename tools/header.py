@@ -148,8 +148,8 @@ def c_type(kind: str) -> str:
     if kind in STATUSES:
         return STATUSES[kind]
     if kind not in NUMBERS:
-        sys.exit(f"tools/header.py: the C interface cannot pass the type {kind}: if it is a struct, name it in STRUCTS of "
-                 "tools/header.py and in C_STRUCTS of tests/declarations.py")
+        sys.exit(f"tools/header.py: the C interface cannot pass the type {kind}: if it is a struct, name it in STRUCTS "
+                 "of tools/header.py and in C_STRUCTS of tests/declarations.py")
     return NUMBERS[kind]
 
 
@@ -164,7 +164,7 @@ def functions() -> list[Function]:
     if len(found) != sum(path.read_text(encoding="utf-8").count("no_mangle") for path in SOURCES):
         sys.exit("tools/header.py: not every export is a function of a file")
     if odd := [function.symbol for function in found if function.section not in SECTIONS]:
-        sys.exit(f"tools/header.py: no section for {', '.join(odd)}: describe the generator in SECTIONS of tools/header.py")
+        sys.exit(f"tools/header.py: no section for {', '.join(odd)}: describe the generator in its SECTIONS")
     return sorted(found, key=lambda function: list(SECTIONS).index(function.section))
 
 
