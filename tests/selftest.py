@@ -2,17 +2,25 @@
 """Tests the script ./test and the scripts that compare files: tests/selftest.py. The last line is N passed, M failed.
 
 ./test runs in a folder where each of its parts is a stand-in that passes, fails, or ends without a count.
-tests/workspace.sh runs with a stand-in for cargo. Then a copy of the repository gets one change at a time. The script
-that compares what was changed has to fail, and the script that writes it has to restore it.
+tests/workspace.sh runs with a stand-in for cargo, and the scripts that compare programs run with programs that are
+wrong. Then a copy of the repository gets one change at a time. The script that compares what was changed has to fail,
+and the script that writes it has to restore it.
 """
 
+import contextlib
+import io
 import os
 import re
 import shutil
 import subprocess
 import sys
 import tempfile
+from itertools import islice
 from pathlib import Path
+from unittest import mock
+
+import compare_records
+import second_opinion
 
 ROOT = Path(__file__).resolve().parent.parent
 # Files and folders in tests/ that are not parts: the parts call or read them.
@@ -42,6 +50,9 @@ CHANGES = [
     ("tests/quotes.py", "docs/PROMISES.md", "- Mutants refused: `clone_always_refused`\n", ""),
     ("tests/quotes.py", "docs/PROMISES.md", "refused: none: a law", "refused: a law"),
     ("tests/quotes.py", "docs/PROMISES.md", "`buffers_equal_by_their_generators`", "`wyrand_seed_stays`"),
+    ("tests/quotes.py", "docs/PROMISES.md", "`RandomGen::random: value, state`", "`RandomGen::random: value, states`"),
+    ("tests/quotes.py", "docs/PROMISES.md", "`RandomGen::random: value, state`", "`WyRand::random: value, state`"),
+    ("tests/quotes.py", "docs/PROMISES.md", "`BufferedRng::new: rest, inner`", "`WyRand::new: rest, inner`"),
     ("tests/quotes.py", "c/README.md", "nanorand_wyrand_below(&rng, 6);", "nanorand_wyrand_below(&rng, 7);"),
     ("tests/quotes.py", "c/examples/roll.c", "return 0;", "return 1;"),
     ("tests/quotes.py", "c/examples/shuffle.cpp", "rng.range(1, 6)", "rng.range(1, 7)"),
@@ -71,6 +82,9 @@ CHANGES = [
     ("tests/declarations.py", "rust/nanorand-c/Cargo.toml", 'version = "1', 'version = "2'),
     ("tests/declarations.py", "Cargo.toml", 'version = "1', 'version = "2'),
     ("tests/declarations.py", "Cargo.lock", 'name = "draw"\nversion = "1', 'name = "draw"\nversion = "2'),
+    ("tests/declarations.py", "Cargo.lock", 'name = "lots"\nversion = "1', 'name = "lots"\nversion = "2'),
+    ("tests/declarations.py", "Cargo.lock", 'name = "nanorand-program"\nversion = "1',
+     'name = "nanorand-program"\nversion = "2'),
     ("tests/declarations.py", "rust/nanorand-c/src/lib.rs", "    10000\n", "    10001\n"),
     ("tests/declarations.py", "c/include/nanorand.h", "#define NANORAND_VERSION 1", "#define NANORAND_VERSION 2"),
     ("tests/declarations.py", "pyproject.toml", 'Repository = "', 'Repository = "https://'),
@@ -100,6 +114,13 @@ CHANGES = [
     ("tests/links.py", "docs/PAGE.md", "#the-rule-of-the-draw", "#the-rules-of-the-draw"),
     ("tests/links.py", "docs/PAGE.md", "## The record", "## A record"),
     ("tests/links.py", "crates/nanorand/CONTRACTS.md", "](../../docs/DIFFERENCES.md", "](../../docs/DIFFERENCE.md"),
+    ("tests/links.py", "docs/CONTRIBUTING.md", "`tests/quotes.py` fails", "`tests/quote.py` fails"),
+    ("tests/links.py", "docs/ARCHITECTURE.md", "`bench/rust/`, `bench/c/`, ", "`bench/rust/`, ",
+     "its map lacks bench/c/"),
+    ("tests/links.py", "docs/ARCHITECTURE.md", "`bench/rust/`, ", "`bench/rust/`, `bench/rattle/`, ",
+     "its map has bench/rattle/, which is not there"),
+    ("tools/header.py --check", "c/include/nanorand.h", "const uint8_t *list", "uint8_t *list"),
+    ("tools/header.py --check", "crates/nanorand_c/src/version.rt", "10_000", "10_001"),
     ("tests/differences.py", "crates/nanorand/src/parts.rt", "/// The error", "pub fn spare() {}\n\n/// The error",
      "`parts::spare`: only the library"),
     ("tests/differences.py", "crates/nanorand_core/src/choices.rt", "{below, ", "{below as under, ",
@@ -171,6 +192,29 @@ BAD_MODULES = [b"", b"<html>", MODULE, MODULE + NARROW, MODULE + IMPORT + WIDE]
 BAD_MODULES32 = [b"", MODULE, MODULE + WIDE, MODULE + IMPORT + NARROW]
 # What no script of the page may have: a tag that ends a script, one that begins a comment, a name of another file.
 BAD_SCRIPTS = ['void "</SCRIPT>";', 'void "<!--";', "function hex() {}"]
+# Calls that report a warning and pass: a pattern of each, and the words that make them fail.
+LENIENT = {
+    r"\bcargo clippy (?!--version)": "-- -D warnings -W clippy::pedantic",
+    r"\bcargo fmt (?!--version)": "--check",
+    r"-Wall -Wextra": "-Werror",
+    r"\bunittest discover\b": "-W error",
+}
+# Functions that build something, and what runs before each of them.
+BUILDERS = {
+    ("tests/c.sh", "by_cargo"): "declare -A archives",
+    ("tests/c.sh", "by_the_kit"): "declare -A archives",
+    ("tests/program.sh", "builds_of draw"): "asked=cargo",
+    ("tests/program.sh", "builds_of lots"): "asked=kit",
+}
+# The parts of the two scripts that compare programs with Python code.
+OPINIONS = ("draws", "draws_by_process", "draws_by_openssl", "refusals", "examples", "draws_from_words")
+RECORDS = ("announced", "written_and_accepted", "accepted_or_not", "of_the_draw_or_not")
+# Programs in place of `lots`, none of which looks at the list.
+ACCEPTS = """[ $# -eq 2 ] && echo 'the record agrees with the list; no announcement was compared'
+[ $# -eq 3 ] && echo 'the record agrees with the list, and names the announcement'
+exit 0
+"""
+REFUSES = "echo 'lots: this is no record of format 2' >&2\nexit 9\n"
 
 
 class Counts:
@@ -354,6 +398,129 @@ def cargo(counts, room):
         counts.same(case, (lines[-1], found), (wanted, int("0 failed" not in wanted)))
 
 
+def units(counts, room):
+    """unit_tests adds up what unittest prints. A bad status or a run without tests is a failure."""
+    good = "Ran 3 tests in 0.1s\n\nOK"
+    bad = ("FAIL: test_a (t.T.test_a)\nERROR: test_b (t.T.test_b)\nRan 5 tests in 0.1s\n\n"
+           "FAILED (failures=1, errors=1, skipped=1)")
+    for text, status, wanted in [(good, 0, "3 passed, 0 failed"), (bad, 1, "2 passed, 2 failed"),
+                                 (bad, 0, "2 passed, 2 failed"), (good, 1, "2 passed, 1 failed"),
+                                 ("Ran 0 tests in 0.0s\n\nOK", 0, "0 passed, 1 failed"), ("", 0, "0 passed, 1 failed"),
+                                 ("ERROR: t (unittest.loader._FailedTest.t)", 1, "0 passed, 1 failed"),
+                                 ("Ran 4 tests in 0.1s\n\nOK (skipped=3)", 0, "1 passed, 0 failed")]:
+        program(room / "said", f"printf '%s\\n' '{text}'\nexit {status}\n")
+        lines, found = in_lib("unit_tests name said; finish", room)
+        case = f"unit_tests: {text!r}, status {status}"
+        counts.same(case, (lines[-1], found), (wanted, int(" 0 failed" not in wanted)))
+    program(room / "said", f"printf '%s\\n' '{bad}'\nexit 1\n")
+    lines, _ = in_lib("check case wrong; unit_tests name said; unit_tests name said; finish", room)
+    counts.same("unit_tests after another failure", lines[-1], "4 passed, 5 failed")
+
+
+def streams(counts, room):
+    """The tests of the programs compare whole streams, and the status."""
+    for wanted in ["abc", "ab", "abcd", "", "abd", "Abc", "abc\\n"]:
+        for script in [f"differs_in it out '{wanted}'", f"printf '{wanted}' >$work/other; differs_from it out other"]:
+            lines, _ = in_lib(f"source tests/program.sh; printf abc >$work/out; {script}", room)
+            counts.same(f"abc: {script}", lines == [], wanted == "abc")
+    for wanted, failed in [("3 'a\\n' 'b'", 0), ("0 'a\\n' 'b'", 1), ("3 'a' 'b'", 1), ("3 'a\\n' ''", 1)]:
+        lines, _ = in_lib("source tests/program.sh; compiler=none; begin; echo a >$work/out; printf b >$work/err; "
+                          f"status=3; end case {wanted}; finish", room)
+        counts.same(f"a case that ends with {wanted}", lines[-1], f"{1 - failed} passed, {failed} failed")
+    for texts, failed in [("rattle=1", 0), ("rattle=1 llvm=2 cargo=3", 0), ("rattle=1 llvm=2 cargo=1", 1)]:
+        lines, _ = in_lib(f"source tests/program.sh; for one in {texts}; do echo ${{one#*=}} >$work/${{one%=*}}; done; "
+                          f"chmod +x $work/*; all_different; finish", room)
+        counts.same(f"builds {texts}", lines[-1], f"{1 - failed} passed, {failed} failed")
+
+
+def lints(counts, room):
+    """What a linter or a compiler warns of is a failure, in each script that calls one."""
+    scripts = [path for folder in ("tests", "c/tests") for path in sorted((ROOT / folder).glob("*.sh"))]
+    for pattern, words in LENIENT.items():
+        called = 0
+        for path in scripts:
+            code = re.sub(r"(?m)^ *#.*\n", "", path.read_text(encoding="utf-8")).replace("\\\n", "")
+            arrays = dict(re.findall(r"(?m)^ *(\w+)=\((.*)\)$", code))
+            for line in (line for line in code.splitlines() if re.search(pattern, line)):
+                line = re.sub(r'"\$\{(\w+)\[@\]\}"', lambda found: arrays.get(found[1], found[0]), line)
+                counts.same(f"{path.name}: {line.strip()}: it has {words}", f" {words}" in line, True)
+                called += 1
+        counts.same(f"{pattern} is called", called > 0, True)
+    program(room / "cargo", """case "$*" in
+    *--version* | 'clippy --offline one -- -D warnings -W clippy::pedantic') exit 0 ;;
+    'fmt --all --check') exit 1 ;;
+esac
+exit 7
+""")
+    lines, _ = in_lib("clippy_and_format one; finish", room)
+    counts.same("a good lint and a bad format", lines[-1], "1 passed, 1 failed")
+    program(room / "cargo", """case "$*" in *--version* | fmt*) exit 0 ;; *'-D warnings'*) exit 1 ;; esac\n""")
+    lines, _ = in_lib("clippy_and_format one; finish", room)
+    counts.same("a bad lint and a good format", lines[-1], "1 passed, 1 failed")
+
+
+def opinions(counts, room):
+    """tests/second_opinion.py compares the status and both streams, in each of its parts."""
+    wanted = 0, b"a\n", b""
+    for found in [wanted, (1, b"a\n", b""), (0, b"a\na\n", b""), (0, b"", b""), (0, b"b\n", b""), (0, b"a\n", b"a")]:
+        with mock.patch.object(second_opinion, "result", lambda *_, found=found: found):
+            wrong = [one is not None for one in second_opinion.other_than(wanted, ["one", "two"], [], b"", "")]
+        counts.same(f"tests/second_opinion.py: {found} in place of {wanted}", wrong, [found != wanted] * 2)
+    program(room / "silent", "exit 0\n")
+    silent = [str(room / "silent")]
+    page = second_opinion.PAGE.read_text(encoding="utf-8")
+    source, by_openssl = re.findall(r"^```python\n(.*?)^```$", page, re.M | re.S)
+    code = room / "lots.py"
+    code.write_text(source, encoding="utf-8")
+    # A draw from an empty list or of no entrant prints nothing.
+    for name, outcomes in {
+        "draws": second_opinion.draws(silent, lambda seed, entrants, count: entrants[:count]),
+        "draws_by_process": second_opinion.draws_by_process(silent, code),
+        "draws_by_openssl": second_opinion.draws_by_openssl(silent, by_openssl, room),
+        "refusals": second_opinion.refusals(silent, code),
+        "examples": second_opinion.examples(silent, page, room),
+        "draws_from_words": second_opinion.draws_from_words({"draw": lambda *_: [0]}),
+    }.items():
+        is_found = any(islice(outcomes, 20)) or name == "draws_by_openssl" and not shutil.which("openssl")
+        counts.same(f"tests/second_opinion.py: {name} of a program that prints nothing", is_found, True)
+
+
+def records(counts, room):
+    """tests/compare_records.py compares the status and both streams of each call."""
+    def wrong(name, script, *folder):
+        program(room / "wrong", script)
+        outcomes = getattr(compare_records, name)([str(room / "wrong")], *folder)
+        return sum(one is not None for one in islice(outcomes, 60))
+
+    # Of the outcomes of an announcement one of two is the program's, and of those of a record five of six.
+    for name, folder, calls in [("announced", [], 30), ("written_and_accepted", [room], 50),
+                                ("of_the_draw_or_not", [room], 60)]:
+        for script in ["exit 0\n", "echo x; exit 0\n"]:
+            counts.same(f"tests/compare_records.py: {name}, {script!r}", wrong(name, script, *folder), calls)
+    found = [wrong("accepted_or_not", script, room) for script in (ACCEPTS, REFUSES)]
+    case = "tests/compare_records.py: a program that accepts all, and one that refuses all"
+    counts.same(case, (min(found) > 5, sum(found)), (True, 60))
+    for script in ["exit 0\n", "exit 9\n", f"{REFUSES[:-2]}8\n", f"echo x\n{REFUSES}", f"echo x\n{ACCEPTS}",
+                   f"echo x >&2\n{REFUSES}", f"echo x >&2\n{ACCEPTS}"]:
+        found = wrong("accepted_or_not", script, room)
+        counts.same(f"tests/compare_records.py: accepted_or_not, {script!r}", found, 60)
+
+
+def all_compared(counts, room):
+    """Both scripts that compare programs run all their parts, and count what each finds."""
+    program(room / "none", "exit 0\n")
+    # The first of these also compares the key stream with a known one.
+    for script, names, more in [(second_opinion, OPINIONS, 1), (compare_records, RECORDS, 0)]:
+        differing = {name: lambda *_, name=name: iter([None, f"{name} differs"]) for name in names}
+        with mock.patch.multiple(script, **differing), mock.patch.object(sys, "argv", ["script", str(room / "none")]), \
+                contextlib.redirect_stdout(io.StringIO()) as said:
+            status = script.main()
+        *lines, last = said.getvalue().splitlines()
+        counts.same(f"{script.__name__}: what differs", lines, [f"FAILED {name} differs" for name in names])
+        wanted = f"{len(names) + more} passed, {len(names)} failed"
+        counts.same(f"{script.__name__}: the sum", (last, status), (wanted, 1))
+
+
 def parts(counts, room):
     """`part`, `quiet_part` and `step` count what their commands print and how they end."""
     for text, status, wanted in [("6 passed, 2 failed", 1, "6 passed, 2 failed"), ("6 passed, 0 failed", 3, "6 passed, 1 failed"),
@@ -374,6 +541,7 @@ def parts(counts, room):
 
 
 def program(path, script):
+    path.parent.mkdir(parents=True, exist_ok=True)
     path.write_text(f"#!/bin/sh\n{script}", encoding="utf-8")
     path.chmod(0o755)
 
@@ -557,6 +725,21 @@ def missing(counts, room):
         counts.same(f"tests/{name}.sh kit without its build", refused, True)
 
 
+def builds(counts, room):
+    """A build that fails is a failure, and not a reason to skip its tests."""
+    for name in ["cargo", "rustc", "cc", "rt"]:
+        program(room / "failing" / name, "echo no\nexit 1\n")
+    path = f"{room / 'failing'}:{os.environ['PATH']}"
+    for (file, call), first in BUILDERS.items():
+        text = (room / file).read_text(encoding="utf-8")
+        function = re.search(rf"^{call.split()[0]}\(\) \{{\n.*?^\}}$", text, re.M | re.S)[0]
+        script = f"source tests/lib.sh\n{first}\n{function}\n{call}\nfinish"
+        done = ran(["bash", "-c", script], room, PATH=path, BUILT="", PROVED="", RUSTC="", CC="")
+        last = done.stdout.splitlines()[-1]
+        found = "skipped: " in done.stdout, bool(re.fullmatch(r"0 passed, [1-9] failed", last)), done.returncode
+        counts.same(f"{call} of {file}, if its build fails", found, (False, True, 1))
+
+
 def browsers(counts, room):
     """web/tests/run.py tries three times to start a browser. One that does not start is a failure."""
     built = room / "web/dist"
@@ -569,16 +752,37 @@ def browsers(counts, room):
                 (1, ["0 passed, 1 failed"], 3))
 
 
+def ended_early(counts, room):
+    """A part of web/tests/run.py that raises an exception is a failure, and so is an error of the console. The page's
+    files are those that `browsers` left."""
+    drivers, part = room / "web/tests/drivers.py", room / "web/tests/glue.py"
+    texts = drivers.read_text(encoding="utf-8"), part.read_text(encoding="utf-8")
+    for body, errors, wanted in [("counts.case('all')", [], "2 passed, 0 failed"),
+                                 ("raise ValueError", [], "1 passed, 1 failed"),
+                                 ("counts.case('all', 'wrong')", [], "1 passed, 1 failed"),
+                                 ("counts.case('all')", ["a"], "1 passed, 1 failed")]:
+        drivers.write_text(f"{texts[0]}\nfrom unittest import mock\n\n\ndef start(kind, downloads):\n"
+                           f"    return mock.MagicMock(**{{'errors.return_value': {errors}}})\n", encoding="utf-8")
+        part.write_text(f"{texts[1]}\n\ndef run(counts, page, modules):\n    {body}\n", encoding="utf-8")
+        done = ran(["web/tests/run.py", "lots", "chromium", "--only", "glue"], room)
+        found = done.stdout.splitlines()[-1:], done.returncode
+        case = f"a part of the page's tests: {body}, errors {errors}"
+        counts.same(case, found, ([wanted], int(" 0 failed" not in wanted)))
+    drivers.write_text(texts[0], encoding="utf-8")
+    part.write_text(texts[1], encoding="utf-8")
+
+
 def main():
     counts = Counts()
     with tempfile.TemporaryDirectory() as name:
         room = Path(name).resolve()
-        for part in (sums, quick, crate, cargo, parts, mutants, definitions, installs):
+        for part in (sums, quick, crate, cargo, units, parts, streams, lints, opinions, records, all_compared, mutants,
+                     definitions, installs):
             (room / part.__name__).mkdir()
             part(counts, room / part.__name__)
         copy_of_repository(room / "copy")
         ran(["git", "init", "-q"], room / "copy")
-        for part in (changes, writers, page, browsers, missing):
+        for part in (changes, writers, page, browsers, ended_early, missing, builds):
             part(counts, room / "copy")
     print(f"{counts.passed} passed, {counts.failed} failed")
     return 1 if counts.failed else 0
