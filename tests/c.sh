@@ -30,7 +30,7 @@ by_cargo() {
     elif PREFIX=$work/installed c/install >"$work/log" 2>&1; then
         archives[cargo]=$work/installed/lib/libnanorand.a
     else
-        check 'c/install' "$(cat "$work/log")"
+        check 'c/install' "it failed: $(cat "$work/log")"
     fi
 }
 
@@ -41,7 +41,7 @@ by_the_kit() {
     elif tests/build.sh library >"$work/log" 2>&1; then
         archives[kit]=$PWD/crates/nanorand_c/out/libnanorand_c.a
     else
-        check 'the proved library' "$(cat "$work/log")"
+        check 'the proved library' "it failed: $(cat "$work/log")"
     fi
 }
 
@@ -74,7 +74,7 @@ build() {
 tests_of() {
     local library name="$1 ${2##*/} ${*:3}"
     if ! build "$@"; then
-        check "$name" "$(head -n 5 "$work/errors")"
+        check "$name" "it failed: $(head -n 5 "$work/errors")"
         return
     fi
     for library in "${!archives[@]}"; do
@@ -86,7 +86,7 @@ tests_of() {
 prints() {
     local library
     if ! build "$1" "$2" "${@:4}"; then
-        check "$1 ${2##*/}" "$(head -n 5 "$work/errors")"
+        check "$1 ${2##*/}" "it failed: $(head -n 5 "$work/errors")"
         return
     fi
     for library in "${!archives[@]}"; do
@@ -136,7 +136,7 @@ classes() {
 # The header alone compiles to no function that two files of a program would both define, and leaves no macro of its own.
 header_of_classes() {
     check "$1: nanorand.hpp alone" \
-        "$(compile "$1" -c -o "$work/classes.o" c/include/nanorand.hpp || head -n 5 "$work/errors")"
+        "$(compile "$1" -c -o "$work/classes.o" c/include/nanorand.hpp || echo "it failed: $(head -n 5 "$work/errors")")"
     check "$1: inline functions only" "$(nm "$work/classes.o" | grep ' [BDRT] ')"
     check "$1: macros of nanorand.hpp" \
         "$(compile "$1" -E -dM -o - c/include/nanorand.hpp | grep NANORAND_CALL)"
@@ -181,7 +181,7 @@ warned() {
     if compile "$1" -c -o "$work/warns.o" "$work/warns.c"; then
         check "$1: $2" "${3:+the compiler does not warn}"
     elif [ -z "$3" ] || ! grep -qF "$3" "$work/errors"; then
-        check "$1: $2" "$(head -n 5 "$work/errors")"
+        check "$1: $2" "it failed: $(head -n 5 "$work/errors")"
     else
         check "$1: $2" ''
     fi
@@ -298,7 +298,7 @@ both_releases() {
     local shared
     if ! cc -o "$work/both" "$work/ours.o" "$work/theirs.o" -Wl,--whole-archive "$@" -Wl,--no-whole-archive \
         2>"$work/errors"; then
-        check 'two releases' "$(head -n 5 "$work/errors")"
+        check 'two releases' "it failed: $(head -n 5 "$work/errors")"
         return
     fi
     quiet_part 'two releases' "$work/both"

@@ -163,6 +163,10 @@ CHANGES = [
     ("tools/contracts.py --check", "crates/nanorand/specs/generators/Parts.antt", "(i * draws)", "(i * draws + 1)"),
     ("tools/contracts.py --check", "crates/lots_core/src/lib.rt", "pub mod run;", "pub mod run;\npub const FEW: u8 = 1;"),
     ("tools/contracts.py --check", "tools/contracts.sums", "nanorand/src/laws.rt", "nanorand/src/law.rt"),
+    ("tools/contracts.py --check", "crates/nanorand_users/src/retry.rt", "IfOk result (λ delay. ceiling / 2 ≤ delay)",
+     "IfOk result (λ delay. 0 ≤ delay)"),
+    ("tools/contracts.py --check", "crates/nanorand_tests/src/comparing.rt", "    right: T,\n    note: impl Display + Drop,\n)\n    ensures { IsTrue (T.eq left right) }",
+     "    right: T,\n    note: impl Display + Drop,\n)"),
     ("tools/bodies.py", "rust/lots/src/draws.rs", "number(places);", ""),
     ("tools/bodies.py", "crates/draw_core/src/command.rt", "1000", "999"),
     ("tools/bodies.py", "rust/nanorand-proved/src/samples.rs", "= count - places.len()", "= count - places.len() - 1"),
@@ -728,7 +732,7 @@ def missing(counts, room):
 def builds(counts, room):
     """A build that fails is a failure, and not a reason to skip its tests."""
     for name in ["cargo", "rustc", "cc", "rt"]:
-        program(room / "failing" / name, "echo no\nexit 1\n")
+        program(room / "failing" / name, "exit 1\n")
     path = f"{room / 'failing'}:{os.environ['PATH']}"
     for (file, call), first in BUILDERS.items():
         text = (room / file).read_text(encoding="utf-8")
