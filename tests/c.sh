@@ -240,8 +240,10 @@ only_error() {
 warnings_of_classes() {
     local call
     for call in 'rng.range(1, 6)' 'rng.try_range(1, 6)' 'rng.below(6)' 'rng.f64()' 'rng.choose(items)' \
-        'rng.sample(6, 2)' 'rng.part(1, 1)' 'rng.distance(rng)' 'rng.state()' 'nanorand::WyRand::from_seed(1)' \
-        'nanorand::Stream::from_key({})' 'nanorand::lots::draw("seed", 3, 1)' 'nanorand::lots::count("")'; do
+        'rng.sample(6, 2)' 'rng.part(1, 1)' 'rng.distance(rng)' 'rng.state()' 'rng.min()' 'nanorand::Pcg64::max()' \
+        'nanorand::WyRand::from_seed(1)' 'nanorand::Pcg64::from_seed(1, 2)' 'nanorand::WyRand::from_state({1})' \
+        'nanorand::Stream::from_key({})' 'nanorand::ChaCha8(1).block()' 'nanorand::lots::draw("seed", 3, 1)' \
+        'nanorand::lots::count("")' 'nanorand::lots::digest("")'; do
         warns_in_cpp "$1" "$call;" unused-result
     done
     for call in 'rng()' 'rng.shuffle(items)' 'rng.discard(1)' 'rng.fill(items.data(), 4)'; do

@@ -2,9 +2,9 @@
 """Compares the declarations of the exports, in Rust and in C, with the proved functions: tests/declarations.py.
 
 No compiler sees a declaration together with the function, and the linker compares only names. The script also compares
-the exports of the library that cargo builds, the attributes for null pointers and statuses in the header, the structs
-that the exports take or return, the version and the repository's address that each part names, the headings of the
-changelogs, and the C functions and statuses that documents name.
+the exports of the library that cargo builds, the attributes for null pointers and statuses in the header, the results
+in the header of C++ that have to be read, the structs that the exports take or return, the version and the repository's
+address that each part names, the headings of the changelogs, and the C functions and statuses that documents name.
 The last line is N passed, M failed.
 """
 
@@ -39,6 +39,8 @@ C_STRUCTS = {
     "nanorand_keystream": "GroupStream",
 }
 STRUCTS = sorted(C_STRUCTS.values())
+# The functions of C++ whose result need not be read: the call that all generators of <random> have.
+MAY_BE_UNREAD = {"operator()"}
 # Where the library's version is written, as text or as the number that is exported.
 VERSIONS = {
     "c/include/nanorand.h": r"^#define NANORAND_VERSION (\d+)$",
@@ -233,6 +235,32 @@ def macro_problems(path):
     ]
 
 
+def cpp_functions(path):
+    """The name of each function in a header of C++, and the words before it. Deleted functions are left out."""
+    text = re.sub(r"(?m)^#(?:.*\\\n)*.*", "", without_comments(read(path)))
+    text = re.sub(r"\b(?:public|private):|= \{\}|template <.*>\n", "", text).replace("decltype(auto)", "auto")
+    found, head, depth = [], "", 0
+    for part in re.split(r"([{};])", text):
+        begins = part == "{" and (depth > 0 or "(" in head)
+        if depth == 0 and (begins or part == ";" and "(" in head and "=" not in head):
+            before, name = re.match(r"(?s)(.*?)(operator\(\)|operator[^\w\s]+|\w+)\(", head).groups()
+            found.append((name, before.split()))
+        depth = max(0, depth + begins - (part == "}"))
+        head = part
+    return found
+
+
+def unread_problems(path):
+    """Each function of C++ that returns a value says that it has to be read. Constructors have no type before them."""
+    functions, said = cpp_functions(path), read(path).count("[[nodiscard]]")
+    found = sum("[[nodiscard]]" in words for _, words in functions)
+    yield [] if found == said else [f"{path}: {found} functions with [[nodiscard]] are found, not {said}"]
+    for name, words in functions:
+        returns = set(words) - {"explicit", "inline", "static", "friend", "constexpr", "void"}
+        is_read = not returns or "[[nodiscard]]" in words or name in MAY_BE_UNREAD
+        yield [] if is_read else [f"{path}: {name} returns a value without [[nodiscard]]"]
+
+
 def c_structs(path):
     text = without_comments(read(path))
     found = re.findall(r"^typedef struct \w* ?\{(.*?)\} (\w+);", text, re.S | re.M)
@@ -357,6 +385,7 @@ def main():
     cases += problems(CALLED, called_declarations(), in_rust, comparable)
     cases += problems(header, c_declarations(header), library, comparable)
     cases += attribute_problems(header, library)
+    cases += unread_problems("c/include/nanorand.hpp")
     cases += problems(BY_CARGO, exports_by_cargo(), in_rust, comparable)
     cases += problems("bench/kit/src/calls.rs", rust_declarations("bench/kit/src/calls.rs"), bench, types)
     # The structs of `nanorand_calls`, and `WyRand` of `nanorand`.

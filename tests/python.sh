@@ -117,6 +117,20 @@ refused_statuses() {
     unit_tests 'python/tests/refusals.py' in_tests "$room/env/bin/python" refusals
 }
 
+# The package of another release, whose numbers all have two digits, says its version.
+another_version() {
+    local place="$work/another place/of the same/sources" room=$work/version
+    step another_place
+    mkdir "$room"
+    sed -i 's/^#define NANORAND_VERSION .*/#define NANORAND_VERSION 123456/' "$place/c/include/nanorand.h"
+    cc -std=c11 -O2 -fPIC "-I$place/c/include" -c -o "$room/refusing.o" python/tests/refusing.c
+    ar rcs "$room/refusing.a" "$room/refusing.o"
+    step env NANORAND_LIBRARY="$room/refusing.a" "$place/python/build.py" "$room/one"
+    expect 'the version of its wheel' nanorand-12.34.56 "$(cd "$room/one" && echo *.whl | grep -o '^[^-]*-[^-]*')"
+    step environment python3 "$room/env" "$room/one"
+    expect 'its version' 12.34.56 "$("$room/env/bin/python" -c 'import nanorand; print(nanorand.__version__)')"
+}
+
 # Runs the tests with the system's Python again, over an extension module that counts what they run. They must run every
 # line and branch of the package's Python and C code. If an allocation fails, Python's own tracer fails too, so those
 # tests run once more without it. For branches on a null pointer or a failed call it is enough that the lines between
@@ -352,6 +366,7 @@ else
 fi
 by_newer_pythons
 refused_statuses
+another_version
 unit_tests 'python/tests/packaging.py' in_repository packaging
 step without_warnings cc
 if available clang clang; then

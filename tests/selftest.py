@@ -71,6 +71,8 @@ CHANGES = [
     ("tests/declarations.py", "crates/nanorand_c/src/lots.rt", "wanted: usize", "wanted: u32"),
     ("tests/declarations.py", "c/include/nanorand.h", "NANORAND_NOT_NULL((1, 4))", "NANORAND_NOT_NULL((1))"),
     ("tests/declarations.py", "c/include/nanorand.h", " NANORAND_USE_STATUS;", ";"),
+    ("tests/declarations.py", "c/include/nanorand.hpp", "[[nodiscard]] inline std::array", "inline std::array"),
+    ("tests/declarations.py", "c/include/nanorand.hpp", "[[nodiscard]] decltype(auto)", "decltype(auto)"),
     ("tests/declarations.py", "tests/against_c/tests/common/mod.rs", "#[repr(C)]\n", ""),
     ("tests/declarations.py", "tests/against_c/tests/common/mod.rs", "places: *mut usize", "places: *const usize"),
     ("tests/declarations.py", "tests/against_c/tests/common/mod.rs", "index: u64", "index: u32"),

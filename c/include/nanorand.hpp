@@ -119,17 +119,17 @@ struct stream { NANORAND_CALLS(stream, nanorand_stream) NANORAND_CALL(stream, ne
 #undef NANORAND_CALL
 
 /// Whether two states will draw the same numbers.
-inline bool same(const nanorand_wyrand& left, const nanorand_wyrand& right) noexcept
+[[nodiscard]] inline bool same(const nanorand_wyrand& left, const nanorand_wyrand& right) noexcept
 {
     return left.seed == right.seed;
 }
 
-inline bool same(const nanorand_pcg64& left, const nanorand_pcg64& right) noexcept
+[[nodiscard]] inline bool same(const nanorand_pcg64& left, const nanorand_pcg64& right) noexcept
 {
     return left.low == right.low && left.high == right.high;
 }
 
-inline bool same(const nanorand_chacha& left, const nanorand_chacha& right) noexcept
+[[nodiscard]] inline bool same(const nanorand_chacha& left, const nanorand_chacha& right) noexcept
 {
     return std::memcmp(&left, &right, sizeof left) == 0; // the struct has no padding
 }
@@ -138,7 +138,7 @@ inline bool same(const nanorand_chacha& left, const nanorand_chacha& right) noex
 /// block. Two different states can be at one place, since the blocks after it may be buffered or not yet computed. So
 /// copies draw as many bytes as a buffer holds. What follows these bytes depends only on the place, key and nonce.
 template <typename Calls, std::size_t Size>
-bool same_stream(typename Calls::state left, typename Calls::state right) noexcept
+[[nodiscard]] bool same_stream(typename Calls::state left, typename Calls::state right) noexcept
 {
     const auto start = [](const typename Calls::state& state) {
         const std::uint64_t buffered = std::min<std::uint64_t>(state.buffered, Size - 1);
@@ -157,12 +157,12 @@ bool same_stream(typename Calls::state left, typename Calls::state right) noexce
     return some == others;
 }
 
-inline bool same(const nanorand_keystream& left, const nanorand_keystream& right) noexcept
+[[nodiscard]] inline bool same(const nanorand_keystream& left, const nanorand_keystream& right) noexcept
 {
     return same_stream<keystream, sizeof left.group>(left, right);
 }
 
-inline bool same(const nanorand_stream& left, const nanorand_stream& right) noexcept
+[[nodiscard]] inline bool same(const nanorand_stream& left, const nanorand_stream& right) noexcept
 {
     return same_stream<stream, sizeof left.block>(left, right);
 }
@@ -375,7 +375,7 @@ public:
 
 private:
     template <typename Integer>
-    nanorand_status draw(Integer first, Integer last, Integer& number) noexcept
+    [[nodiscard]] nanorand_status draw(Integer first, Integer last, Integer& number) noexcept
     {
         static_assert(!std::is_floating_point_v<Integer>,
                       "range draws integers of at most 64 bits; for a floating-point number, use f64()");
@@ -393,7 +393,7 @@ private:
     }
 
     template <typename Number, typename Call, typename Integer>
-    nanorand_status draw_by(Call call, Integer first, Integer last, Integer& number) noexcept
+    [[nodiscard]] nanorand_status draw_by(Call call, Integer first, Integer last, Integer& number) noexcept
     {
         Number drawn{};
         const nanorand_status status = call(&state_, first, last, &drawn);
@@ -425,7 +425,7 @@ public:
     using keyed<Generator, Calls>::keyed;
 
     /// Draws a whole block.
-    std::array<std::uint8_t, 64> block() noexcept
+    [[nodiscard]] std::array<std::uint8_t, 64> block() noexcept
     {
         std::array<std::uint8_t, 64> bytes{};
         Calls::block(&this->state(), bytes.data());
@@ -437,7 +437,7 @@ public:
 };
 
 /// The text as bytes of C.
-inline const std::uint8_t* bytes_of(std::string_view text) noexcept
+[[nodiscard]] inline const std::uint8_t* bytes_of(std::string_view text) noexcept
 {
     return reinterpret_cast<const std::uint8_t*>(text.data());
 }

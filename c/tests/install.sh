@@ -68,7 +68,13 @@ libraries() {
     check 'no other names' "$(readelf -SW "$shared" | grep -F .symtab)"
     check 'the shared library on every processor' "$(runs_on_every_processor "$shared" >"$work/found" || cat "$work/found")"
     check 'the archive on every processor' "$(runs_on_every_processor "$archive" >"$work/found" || cat "$work/found")"
-    check 'no code on the stack' "$(readelf -lW "$shared" | grep GNU_STACK | grep -v 'RW  ')"
+    readelf -lW "$shared" >"$work/segments"
+    check 'no code on the stack' "$(grep -q ' GNU_STACK .* RW  ' "$work/segments" || echo 'it may have some')"
+    check 'no code that can be changed' "$(grep ' RWE ' "$work/segments")"
+    # So nobody can change later which functions it calls.
+    readelf -d "$shared" >"$work/dynamic"
+    check 'addresses are found when it is loaded' "$(grep -q '(FLAGS).* BIND_NOW' "$work/dynamic" || echo 'they are not')"
+    check 'they are read-only then' "$(grep -q ' GNU_RELRO ' "$work/segments" || echo 'they are not')"
     check 'no path of this machine' "$(grep -rlF -e "$PWD" -e "$work" "$root")"
 }
 
@@ -84,6 +90,8 @@ members() {
     while read -r member; do
         check "the symbols of $member" "$(nm -g --defined-only "$work/objects/$member" | grep ' ' | symbols |
             diff - <(grep -E "^nanorand_v1_${member%.o}(_|\$)" "$work/names"))"
+        check "no code on the stack: $member" "$(readelf -SW "$work/objects/$member" >"$work/sections"
+            grep -q ' \.note\.GNU-stack .* 00  *0  *0  *1$' "$work/sections" || echo 'it may have some')"
     done <"$work/members"
     printf 'int main(void) { return 0; }\n' >"$work/empty.c"
     printf '#include "nanorand.h"\nint main(void) { nanorand_wyrand rng = { 1 }; return (int)nanorand_wyrand_u64(&rng); }\n' \
@@ -178,6 +186,7 @@ programs_in_cpp() {
     cp c/examples/{CMakeLists.txt,shuffle.cpp} "$work/cmake"
     by_cmake "$work/cmake" "-DCMAKE_PREFIX_PATH=$root"
     check 'the static library by CMake' "$(readelf -d "$work/cmake/build/shuffle" | grep libnanorand)"
+    refuses_version "$work/cmake" 0.99
     refuses_version "$work/cmake" 1.99
     refuses_version "$work/cmake" 2
     sed -i 's/nanorand::static/nanorand::shared/' "$work/cmake/CMakeLists.txt"
@@ -231,6 +240,51 @@ another_folder() {
     check 'the same files' "$(files "$work/here/destination$work/here/usr" | diff - <(files "$root"))"
 }
 
+# Prints a line for each version that follows: the version, whether find_package of CMake accepts the library below the
+# folder $1 for it, and the version of that library.
+found_by_cmake() {
+    mkdir -p "$work/versions"
+    cat >"$work/versions/CMakeLists.txt" <<'END'
+cmake_minimum_required(VERSION 3.13)
+project(versions LANGUAGES NONE)
+foreach(wanted IN LISTS WANTED)
+    string(REPLACE "-" ";" arguments ${wanted})
+    unset(nanorand_DIR CACHE)
+    unset(nanorand_VERSION)
+    find_package(nanorand ${arguments} QUIET CONFIG NO_DEFAULT_PATH PATHS "${PREFIX}")
+    message(STATUS "${wanted} ${nanorand_FOUND} ${nanorand_VERSION}")
+endforeach()
+END
+    cmake -S "$work/versions" -B "$work/versions/build" "-DPREFIX=$1" "-DWANTED=$(IFS=';' && echo "${*:2}")" 2>&1 |
+        sed -n 's/^-- \([0-9].*\)/\1/p'
+}
+
+# Another release, whose numbers all have two digits, says its version. CMake accepts this version and older ones with
+# the same first number, and no others.
+another_version() {
+    local copy=$work/another/folder prefix=$work/versioned wanted
+    local accepted=(12 12.0 12.0.0 12.9 12.33.99 12.34 12.34.6 12.34.55 12.34.56 12.34.56-EXACT)
+    local refused=(0 0.9 1 1.2 1.2.3 2.34.56 11 11.34.56 11.99.99 12.34-EXACT 12.34.55-EXACT 12.34.57 12.34.560 12.35 12.100
+        13 13.0.0 13.34.56 34 120.34.56 123456)
+    sed -i 's/^#define NANORAND_VERSION .*/#define NANORAND_VERSION 123456/' "$copy/c/include/nanorand.h"
+    check 'version 12.34.56' "$(install_from "$copy" PREFIX="$prefix")"
+    expect 'its version for pkg-config' 'Version: 12.34.56' "$(grep '^Version' "$prefix/lib/pkgconfig/nanorand.pc")"
+    if available pkg-config pkg-config; then
+        expect 'pkg-config' 12.34.56 "$(PKG_CONFIG_PATH=$prefix/lib/pkgconfig pkg-config --modversion nanorand)"
+    fi
+    if ! available cmake cmake; then
+        skip 'the versions that CMake accepts' 'there is no cmake'
+        return
+    fi
+    found_by_cmake "$prefix" "${accepted[@]}" "${refused[@]}" >"$work/found"
+    for wanted in "${accepted[@]}"; do
+        check "CMake: version $wanted of 12.34.56" "$(grep -qFx "$wanted 1 12.34.56" "$work/found" || echo 'it is refused')"
+    done
+    for wanted in "${refused[@]}"; do
+        check "CMake: version $wanted of 12.34.56" "$(grep -qFx "$wanted 0 " "$work/found" || echo 'it is accepted')"
+    done
+}
+
 # Installing over another release replaces every file and the link.
 over_an_older_one() {
     local file
@@ -272,6 +326,7 @@ members
 processors
 programs
 another_folder
+another_version
 over_an_older_one
 compiler_with_options
 failures

@@ -188,15 +188,27 @@ static void raise_length(const Kind *kind, Py_ssize_t length)
     }
 }
 
-/* Returns the bytes of a state that `state_dict` returned. */
+/* Returns the value of a key as a new reference, or NULL: without an exception if there is no such key. */
+static PyObject *value_of(PyObject *dict, const char *name)
+{
+    PyObject *key = PyUnicode_FromString(name);
+    PyObject *value = key == NULL ? NULL : PyDict_GetItemWithError(dict, key);
+    Py_XINCREF(value);
+    Py_XDECREF(key);
+    return value;
+}
+
+/* Returns the bytes of a state that `state_dict` returned. Other keys may run Python code, which changes the dict. */
 static PyObject *octets_of_dict(const Kind *kind, PyObject *dict)
 {
-    PyObject *name = PyDict_GetItemString(dict, "generator"), *digits = PyDict_GetItemString(dict, "state");
+    PyObject *name = value_of(dict, "generator"), *digits = name == NULL ? NULL : value_of(dict, "state");
     PyObject *octets = NULL;
-    if (name != NULL && PyUnicode_Check(name) && PyUnicode_CompareWithASCIIString(name, kind->name) == 0
-        && digits != NULL && PyUnicode_Check(digits)) {
+    if (digits != NULL && PyUnicode_Check(name) && PyUnicode_CompareWithASCIIString(name, kind->name) == 0
+        && PyUnicode_Check(digits)) {
         octets = PyObject_CallMethod((PyObject *)&PyBytes_Type, "fromhex", "O", digits);
     }
+    Py_XDECREF(name);
+    Py_XDECREF(digits);
     if (octets == NULL && (!PyErr_Occurred() || PyErr_ExceptionMatches(PyExc_ValueError))) {
         PyErr_Clear();
         raise_made("ForeignState", "(s)", kind->name);

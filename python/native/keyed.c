@@ -186,12 +186,13 @@ static PyObject *call_jump(PyObject *self, PyObject *const *given, Py_ssize_t pl
 static PyObject *call_block(PyObject *self, PyObject *Py_UNUSED(nothing))
 {
     Generator *rng = (Generator *)self;
-    uint8_t block[BLOCK];
-    if (ready(rng) < 0) {
+    PyObject *block = PyBytes_FromStringAndSize(NULL, BLOCK);
+    if (block == NULL || ready(rng) < 0) {
+        Py_XDECREF(block);
         return NULL;
     }
-    rng->kind->block(rng->state, block);
-    return PyBytes_FromStringAndSize((const char *)block, sizeof block);
+    rng->kind->block(rng->state, (uint8_t *)PyBytes_AS_STRING(block));
+    return block;
 }
 
 /* ---- The types. ---- */

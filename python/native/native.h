@@ -219,6 +219,8 @@ void end_draw(Generator *rng, Draw *draw, int failed);
 
 /* Whether the value is a built-in sequence. Reading and assigning its items runs no Python code. */
 int is_built_in(PyObject *value);
+/* Returns whether items of the value can be replaced: its type has `__setitem__`. Returns -1 on an exception. */
+int is_mutable(PyObject *value);
 /* Raises a TypeError unless the value has a length and items by index. `self` is a generator or the module. */
 int require_sequence(PyObject *self, const char *name, PyObject *value);
 /* Also requires that items can be assigned. */

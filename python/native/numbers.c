@@ -87,11 +87,14 @@ static int last_below(PyObject *end, uint64_t *last)
         raise_text("EmptyRange", "no number below %lld", (long long)whole.bits);
         return -1;
     }
-    if (halves_of(end, &wide) == 1 && wide.high == 1 && wide.low == 0) {
+    fits = halves_of(end, &wide);
+    if (fits == 1 && wide.high == 1 && wide.low == 0) {
         *last = UINT64_MAX;
         return 0;
     }
-    raise_out_of_bounds("end", end, "-9223372036854775808..=18446744073709551616");
+    if (fits >= 0) {
+        raise_out_of_bounds("end", end, "-9223372036854775808..=18446744073709551616");
+    }
     return -1;
 }
 

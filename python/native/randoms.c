@@ -58,11 +58,16 @@ static uint64_t draw_word(Generator *rng, size_t bytes)
 /* Returns the number of the next bytes, in little-endian order, without its `unused` lowest bits. */
 static PyObject *draw_number(Generator *rng, uint64_t bytes, unsigned unused)
 {
+    Saved before;
+    keep_state(rng, &before);
     PyObject *drawn = draw_bytes(rng, bytes);
     PyObject *number =
         drawn == NULL ? NULL : PyObject_CallMethod((PyObject *)&PyLong_Type, "from_bytes", "Os", drawn, "little");
     PyObject *width = number == NULL ? NULL : PyLong_FromUnsignedLong(unused);
     PyObject *upper = width == NULL ? NULL : PyNumber_Rshift(number, width);
+    if (drawn != NULL && upper == NULL) {
+        restore_state(rng, &before);
+    }
     Py_XDECREF(drawn);
     Py_XDECREF(number);
     Py_XDECREF(width);

@@ -50,10 +50,21 @@ int require_sequence(PyObject *self, const char *name, PyObject *value)
     return require(self, name, value, has_length(Py_TYPE(value)) && has_items(Py_TYPE(value)), "a sequence");
 }
 
+int is_mutable(PyObject *value)
+{
+    PyObject *found = PyObject_GetAttrString((PyObject *)Py_TYPE(value), "__setitem__");
+    if (found == NULL && PyErr_ExceptionMatches(PyExc_AttributeError)) {
+        PyErr_Clear();
+        return 0;
+    }
+    Py_XDECREF(found);
+    return found == NULL ? -1 : 1;
+}
+
 int require_mutable(PyObject *self, const char *name, PyObject *value)
 {
-    int seems = has_length(Py_TYPE(value)) && PyObject_HasAttrString((PyObject *)Py_TYPE(value), "__setitem__");
-    return require(self, name, value, seems, "a sequence whose items can be replaced");
+    int seems = has_length(Py_TYPE(value)) ? is_mutable(value) : 0;
+    return seems < 0 ? -1 : require(self, name, value, seems, "a sequence whose items can be replaced");
 }
 
 /* ---- Items. Reading one may call into Python, which can change a list, so each index is checked again. ---- */

@@ -186,9 +186,9 @@ static int is_owned(PyObject *items)
     if (one == NULL) {
         return -1;
     }
-    int owned = 1;
-    if (PyObject_HasAttrString((PyObject *)Py_TYPE(one), "__setitem__")) {
-        PyObject *again = item_at(items, 0);
+    int owned = 1, mutable = is_mutable(one);
+    if (mutable != 0) {
+        PyObject *again = mutable < 0 ? NULL : item_at(items, 0);
         owned = again == NULL ? -1 : again == one;
         Py_XDECREF(again);
     }

@@ -5,6 +5,7 @@ import array
 import collections
 import contextlib
 import copy
+import ctypes
 import functools
 import gc
 import importlib.util
@@ -21,7 +22,7 @@ except ImportError:
 
 from makers import CLASSES, KEY, NONCE, RANDOMS, generators
 
-from nanorand import ChaCha8, Generator, NanorandError, Pcg64, Stream, WyRand, _native, lots
+from nanorand import ChaCha8, Generator, Pcg64, Stream, WyRand, _native, lots
 from nanorand.randoms import WyRandRandom
 
 TIMES, ROUNDS = 1000, 20
@@ -70,13 +71,15 @@ class Refuses(list):
 
 LIST, TUPLE, TEXT, BUFFER = ITEMS, tuple(ITEMS), "text", bytearray(16)
 WORDS, DOUBLES, READ_ONLY = array.array("Q", [0] * 9), array.array("d", [0] * 9), memoryview(b"12345678")
-MANY = array.array("Q", range(600))
+MANY, LARGE = array.array("Q", range(600)), array.array("Q", [2**63] * 9)
 LONG_LIST, LONG_WORDS = list(range(9000)), array.array("Q", range(9000))
 FAILS, REFUSES, REALS, WHOLES, OTHER = Fails(), Refuses(ITEMS), [1.5] * 9, [2] * 9, object()
 LATE, NO_LENGTH = FailsLate(ITEMS), NoLength(ITEMS)
 # Sequences other than plain lists, with mutable items.
 ROWS = [[1], {"a": 1}, bytearray(5), array.array("Q", [7]), [2], Refuses()]
 OF_ROWS = [collections.deque(ROWS), collections.UserList(ROWS), type("Own", (list,), {})(ROWS)]
+# Its items are new views of it at each reading.
+MATRIX = (ctypes.c_int * 2 * 3)((1, 2), (3, 4), (5, 6))
 SHARED = [LIST, TUPLE, TEXT, BUFFER, WORDS, DOUBLES, READ_ONLY, FAILS, LATE, REFUSES, REALS, WHOLES, OTHER, BIG]
 SHARED += [KEY, NONCE, NO_LENGTH, MANY, *ROWS, *OF_ROWS]
 
@@ -102,14 +105,19 @@ SUCCEED = {
     "fill_range": lambda rng: (rng.fill_range(BUFFER, 1, 6), rng.fill_range(WORDS, 1, 2**60)),
     "fill_random": lambda rng: rng.fill_random(DOUBLES),
     "states": lambda rng: (rng.state, setattr(rng, "state", rng.state), type(rng).from_state(rng.state), rng.copy()),
+    "state_dict": lambda rng: (setattr(rng, "state", rng.state_dict), type(rng).from_state(rng.state_dict)),
+    "copied": lambda rng: (copy.copy(rng), copy.deepcopy(rng)),
     "from_entropy": lambda rng: type(rng).from_entropy(),
     "seed_from_u64": lambda rng: (type(rng).seed_from_u64(7), type(rng).seed_from_u64(number=2**64 - 1)),
     "part": lambda rng: (rng.part(2**60, 3), rng.part(index=1, draws=2**60 + 1)),
     "compared": lambda rng: (rng == rng.copy(), rng != rng.copy(), rng == 5, rng < rng.copy() if False else None),
     "pickled": lambda rng: pickle.loads(pickle.dumps(rng)),
     "shown": lambda rng: repr(rng),
-    "parts": lambda rng: [getattr(rng, name, None) for name in ("seed", "key", "nonce", "counter", "rest")],
+    "parts": lambda rng: [getattr(rng, name, None) for name in ("seed", "key", "nonce", "counter", "rest", "position")],
     "jump": lambda rng: rng.jump(10**9) if hasattr(rng, "jump") else None,
+    "long jump": lambda rng: rng.jump(2**100) if isinstance(rng, Pcg64) else None,
+    "distance": lambda rng: rng.distance(rng.part(1, 2**40 + 1)) if hasattr(rng, "distance") else None,
+    "seek": lambda rng: rng.seek(2**65 + 5) if hasattr(rng, "seek") else None,
     "block": lambda rng: rng.block() if hasattr(rng, "block") else None,
     "made anew": lambda rng: rng.__init__(*((2**60,) if hasattr(rng, "seed") else (KEY, NONCE, 2**60))),
     "weak references": lambda rng: weakref.ref(rng)(),
@@ -153,7 +161,7 @@ FAIL = {
     "shuffle": [lambda rng: rng.shuffle(TUPLE), lambda rng: rng.shuffle(FAILS), lambda rng: rng.shuffle(REFUSES),
                 lambda rng: rng.shuffle(READ_ONLY), lambda rng: rng.shuffle_full(REFUSES),
                 lambda rng: rng.shuffle(LATE), lambda rng: rng.shuffle_full(LATE), lambda rng: rng.shuffle(NO_LENGTH),
-                lambda rng: rng.shuffle(OTHER)],
+                lambda rng: rng.shuffle(MATRIX), lambda rng: rng.shuffle(OTHER)],
     "fill": [lambda rng: rng.fill(READ_ONLY), lambda rng: rng.fill(DOUBLES), lambda rng: rng.fill(OTHER),
              lambda rng: rng.fill(memoryview(BUFFER)[::2]), lambda rng: rng.fill_range(BUFFER, 6, 1),
              lambda rng: rng.fill_range(BUFFER, 1, BIG), lambda rng: rng.fill_range(WORDS, FAILS, 5),
@@ -191,6 +199,7 @@ OF_RANDOM = {
     "generator": lambda rng: setattr(rng, "generator", rng.generator.copy()),
     "seed": lambda rng: (rng.seed(5), rng.seed("a text"), rng.seed(-BIG), rng.seed(1.5), rng.seed()),
     "states": lambda rng: rng.setstate(rng.getstate()),
+    "reduced": lambda rng: rng.__reduce__(),
     "made": lambda rng: type(rng)(5).random(),
     "refused": lambda rng: [refused(call, rng) for call in (
         lambda rng: setattr(rng, "generator", OTHER), lambda rng: delattr(rng, "generator"),
@@ -211,15 +220,43 @@ OF_LOTS = {
 }
 
 
+# The errors of Python itself if there is no memory: pickle does not say why it could not import a class, and Python
+# 3.10 has functions in Python end without an exception.
+OF_PYTHON = {"pickled": pickle.PicklingError, "rows": SystemError, "shuffles of rows": SystemError}
+# These call random.Random.seed, whose SHA-512 crashes Python 3.10 and 3.11 if there is no memory.
+OF_SEEDS = {"seed", "states", "made"}
+
+
 def octets_of(*things):
     """The bytes constants in the code of the functions among these."""
     constants = [one for thing in things if hasattr(thing, "__code__") for one in thing.__code__.co_consts]
     return [one for one in constants if isinstance(one, bytes)]
 
 
+def names_in(code):
+    """The names in the code of a function, also as texts and in the functions within it."""
+    names = set(code.co_names)
+    for one in code.co_consts:
+        names.update(names_in(one) if hasattr(one, "co_names") else one if isinstance(one, tuple) else [one])
+    return names
+
+
 def refused(call, *arguments):
     with contextlib.suppress(TypeError, ValueError, KeyError, RuntimeError, MemoryError, AttributeError, BufferError):
         call(*arguments)
+
+
+class Tables(unittest.TestCase):
+    def test_every_call_is_in_a_table(self):
+        """So a new one is tested here, whether it succeeds or has no memory."""
+        for kinds, table in ((CLASSES.values(), SUCCEED), (RANDOMS, OF_RANDOM)):
+            named = set().union(*(names_in(call.__code__) for call in table.values()))
+            for kind in kinds:
+                for base in kind.__mro__:
+                    if base.__module__.startswith("nanorand."):
+                        public = {name for name in vars(base) if not name.startswith("_")}
+                        self.assertEqual(public - named, set(), base)
+        self.assertEqual(set(lots.__all__) - set(OF_LOTS), set())
 
 
 class Leaks(unittest.TestCase):
@@ -340,7 +377,11 @@ class Leaks(unittest.TestCase):
             self.assertEqual([one() for one in seen], [None] * 3)
 
 
-@unittest.skipIf(_testcapi is None or sys.gettrace(), "this Python, or what traces it, cannot be refused memory")
+# Python 3.12 and 3.13 crash where they have no memory for a function or a dict.
+REFUSES_MEMORY = _testcapi is not None and not sys.gettrace() and sys.version_info < (3, 12)
+
+
+@unittest.skipUnless(REFUSES_MEMORY, "this Python, or what traces it, cannot be refused memory")
 class NoMemory(unittest.TestCase):
     """Each allocation fails: first only the first one, then only the second one, and so on."""
 
@@ -364,6 +405,10 @@ class NoMemory(unittest.TestCase):
         "state_dict": lambda rng: setattr(rng, "state", rng.part(1, 5).state_dict),
         "distance": lambda rng: getattr(rng, "distance", lambda other: other)(rng.part(1, 2**40 + 1)),
         "seek": lambda rng: getattr(rng, "seek", lambda position: rng.copy())(2**69 + 5),
+        "block": lambda rng: getattr(rng, "block", rng.copy)(),
+        "uniform": lambda rng: rng.uniform(WHOLES[0], BIG),
+        "choice": lambda rng: rng.choice(LARGE),
+        "made anew": lambda rng: type(rng)(2**60) if hasattr(rng, "seed") else type(rng)(KEY, NONCE, 2**60),
     }
 
     def test_the_generator_is_as_it_was(self):
@@ -379,14 +424,68 @@ class NoMemory(unittest.TestCase):
                         rng.state = before
                     self.assertGreater(refusals, 0)
 
-    def is_refused(self, request, call, *arguments):
-        """Whether the call raises MemoryError if its allocation with this number fails."""
+    def test_calls_that_succeed(self):
+        """A call that is valid raises no other error than MemoryError."""
+        for rng in generators():
+            before, refusals = rng.state, 0
+            for name, call in SUCCEED.items():
+                with self.subTest(kind=type(rng).__name__, name=name):
+                    refusals += self.refusals(call, rng, usual=OF_PYTHON.get(name, ()))
+                    rng.state = before
+            self.assertGreater(refusals, 100)
+
+    def test_calls_of_random(self):
+        for kind in RANDOMS:
+            for name, call in OF_RANDOM.items():
+                if name not in {"refused", *OF_SEEDS}:
+                    with self.subTest(kind=kind.__name__, name=name):
+                        self.refusals(call, kind(5))
+
+    def test_calls_of_lots(self):
+        for name, call in OF_LOTS.items():
+            if name != "refused":
+                with self.subTest(name=name):
+                    self.assertGreater(self.refusals(call), 0)
+
+    def test_views_are_not_shuffled(self):
+        before = bytes(MATRIX)
+        for rng in generators():
+            for call in (rng.shuffle, rng.shuffle_full):
+                self.assertGreater(self.refusals(call, MATRIX, usual=TypeError), 0)
+                self.assertEqual(bytes(MATRIX), before)
+
+    def refusals(self, call, *arguments, usual=()):
+        """How often the call is refused, if each of its allocations fails once."""
+        refusals = request = granted = 0
+        while granted < 5:
+            is_refused = self.is_refused(request, call, *arguments, usual=usual)
+            refusals, granted, request = refusals + is_refused, 0 if is_refused else granted + 1, request + 1
+        return refusals
+
+    def test_the_generator_of_a_random_is_as_it_was(self):
+        for kind in RANDOMS:
+            rng = kind(5)
+            before = rng.generator.state
+            for call, size in ((rng.getrandbits, 65), (rng.getrandbits, 5000), (rng.randbytes, 100)):
+                refusals = 0
+                for request in range(20):
+                    if self.is_refused(request, call, size):
+                        refusals += 1
+                        self.assertEqual(rng.generator.state, before, (kind, size, request))
+                    rng.generator.state = before
+                self.assertGreater(refusals, 0)
+
+    def is_refused(self, request, call, *arguments, usual=()):
+        """Whether the call raises MemoryError if its allocation with this number fails.
+
+        Otherwise it returns or raises one of the usual errors. Any other error fails the test.
+        """
         _testcapi.set_nomemory(request, request + 1)
         try:
             call(*arguments)
         except MemoryError:
             return True
-        except (NanorandError, TypeError):
+        except usual:
             return False
         finally:
             _testcapi.remove_mem_hooks()
@@ -437,15 +536,25 @@ class NoMemory(unittest.TestCase):
 
     def keeps_nothing(self, watched, call, arguments, times=20):
         """Whichever allocation fails, there are as many references to these objects afterwards."""
+        usual = self.error_of(call, *arguments)
         request = granted = 0
         while granted < 5:
             before = list(map(sys.getrefcount, watched))
-            refusals = sum(self.is_refused(request, call, *arguments) for _ in range(times))
+            refusals = sum(self.is_refused(request, call, *arguments, usual=usual) for _ in range(times))
             after = list(map(sys.getrefcount, watched))
             for one, then, now in zip(watched, before, after):
                 self.assertLess(abs(now - then), times // 2, (request, type(one)))
             granted = 0 if refusals else granted + 1
             request += 1
+
+    @staticmethod
+    def error_of(call, *arguments):
+        """The error that the call raises if there is memory, or none."""
+        try:
+            call(*arguments)
+        except Exception as error:
+            return type(error)
+        return ()
 
 
 def resident():
@@ -542,6 +651,23 @@ class Changing(unittest.TestCase):
                 self.assertEqual(sorted(items), list(range(9)))
                 self.assertEqual(rng.state != before, True)
                 rng.choice(items)
+
+    def test_a_state_that_changes_while_it_is_read(self):
+        """A key that is compared with `state` removes the generator's name, whose memory then gets other texts."""
+        class Removes(str):
+            def __hash__(self):
+                return hash("state")
+
+            def __eq__(self, other):
+                length = len(saved.pop("generator", ""))
+                others.extend("?" * length for _ in range(100))
+                return False
+
+        for rng in generators():
+            saved, others = {}, []
+            saved = {Removes(): None, **rng.state_dict}
+            self.assertEqual(type(rng).from_state(saved), rng)
+            self.assertNotIn("generator", saved)
 
     def test_a_new_that_makes_something_else(self):
         class Other(WyRand):

@@ -14,6 +14,7 @@ from array import array
 
 from makers import KEY, NONCE, Index, stays_itself
 from test_answers import octets, rows
+from test_memory import REFUSES_MEMORY
 
 from nanorand import ChaCha20, Pcg64, Stream, WyRand, _native, lots
 from nanorand.errors import ForeignState, NanorandError, OutOfBounds, WrongLength
@@ -470,7 +471,37 @@ class Memory(unittest.TestCase):
             self.assertEqual(bits.state, before)
         self.assertEqual(foreign.random_raw(), numpy.random.PCG64(1).random_raw())
 
-    @unittest.skipIf(_testcapi is None or sys.gettrace(), "this Python, or what traces it, cannot be refused memory")
+    @unittest.skipUnless(REFUSES_MEMORY, "this Python, or what traces it, cannot be refused memory")
+    def test_calls_that_have_no_memory(self):
+        """Each allocation fails once. Only MemoryError is raised, or the error of Python's lock, which NumPy makes."""
+        calls = {
+            "of": lambda bits: bits.of(start),
+            "made": lambda bits: type(bits)(5),
+            "generator": lambda bits: bits.generator,
+            "state": lambda bits: setattr(bits, "state", bits.state),
+            "advance": lambda bits: bits.advance(-5),
+            "jumped": lambda bits: bits.jumped(2),
+            "__reduce__": lambda bits: bits.__reduce__(),
+        }
+        self.assertEqual({name for name in vars(GeneratorBits) if not name.startswith("_")} - set(calls), set())
+        for start in STARTS:
+            for name, call in calls.items():
+                bits, request, granted = bits_of(start), 0, 0
+                while granted < 5:
+                    _testcapi.set_nomemory(request, request + 1)
+                    try:
+                        call(bits)
+                        granted += 1
+                    except MemoryError:
+                        granted = 0
+                    except RuntimeError as error:
+                        self.assertEqual(str(error), "can't allocate lock")
+                    finally:
+                        _testcapi.remove_mem_hooks()
+                    request += 1
+                self.assertGreater(request, 5, name)
+
+    @unittest.skipUnless(REFUSES_MEMORY, "this Python, or what traces it, cannot be refused memory")
     def test_words_that_have_no_memory(self):
         """The capsule then has none, and may get it later."""
         for start in STARTS:

@@ -409,26 +409,39 @@ mod processor {
         known == PRESENT
     }
 
-    // Leaf 0 of `cpuid` returns the number of the last leaf. Bits 27 and 28 of `ecx` in leaf 1 say
-    // that the system has turned on `xgetbv` and that the processor has AVX. Bits 1 and 2 of
-    // register 0 of `xgetbv` say that the system saves the vectors of 16 and of 32 bytes when it
-    // switches threads. Bit 5 of `ebx` in leaf 7 says that the processor has AVX2.
+    // Bit 27 of `ecx` in leaf 1 of `cpuid`: the system has turned on `xgetbv`.
+    #[cfg(any(test, not(any(miri, target_env = "sgx"))))]
+    const XGETBV: u32 = 1 << 27;
+
+    // Whether programs may use AVX2, by the number of the last leaf of `cpuid`, `ecx` of leaf 1,
+    // register 0 of `xgetbv`, and `ebx` of leaf 7. Bit 28 of `ecx` says that the processor has AVX.
+    // Bits 1 and 2 of the register say that the system saves the vectors of 16 and of 32 bytes when
+    // it switches threads. Bit 5 of `ebx` says that the processor has AVX2.
+    #[cfg(any(test, not(any(miri, target_env = "sgx"))))]
+    pub(super) fn allows_avx2(last_leaf: u32, ecx: u32, register: u64, ebx: u32) -> bool {
+        const XGETBV_AND_AVX: u32 = XGETBV | 1 << 28;
+        const SAVED: u64 = 1 << 1 | 1 << 2;
+        const AVX2: u32 = 1 << 5;
+        last_leaf >= 7
+            && ecx & XGETBV_AND_AVX == XGETBV_AND_AVX
+            && register & SAVED == SAVED
+            && ebx & AVX2 == AVX2
+    }
+
+    // A leaf after the last one has unspecified numbers, but may be asked for.
     #[cfg(not(any(miri, target_env = "sgx")))]
     #[cold]
     pub(super) fn asked() -> bool {
-        const XGETBV_AND_AVX: u32 = 1 << 27 | 1 << 28;
-        const SAVED: u64 = 1 << 1 | 1 << 2;
-        const AVX2: u32 = 1 << 5;
         // SAFETY: `__cpuid` and `__cpuid_count` need a processor that has the instruction `cpuid`;
         // every x86-64 processor has it, and programs may use it except in SGX, for which this
         // function is not compiled. `_xgetbv` needs that the system has turned it on; it is called
         // only after bit 27 of leaf 1 said so. Register 0 always exists.
-        unsafe {
-            __cpuid(0).eax >= 7
-                && __cpuid(1).ecx & XGETBV_AND_AVX == XGETBV_AND_AVX
-                && _xgetbv(0) & SAVED == SAVED
-                && __cpuid_count(7, 0).ebx & AVX2 == AVX2
-        }
+        let (last_leaf, ecx, register, ebx) = unsafe {
+            let ecx = __cpuid(1).ecx;
+            let register = if ecx & XGETBV == 0 { 0 } else { _xgetbv(0) };
+            (__cpuid(0).eax, ecx, register, __cpuid_count(7, 0).ebx)
+        };
+        allows_avx2(last_leaf, ecx, register, ebx)
     }
 
     // Miri and SGX do not have `cpuid`.
@@ -964,6 +977,29 @@ mod tests {
         assert_eq!(asked(), here);
         assert_eq!((has_avx2(), has_avx2()), (here, here));
         assert_eq!(EightLanes::find().is_some(), here);
+    }
+
+    // On a processor with AVX2, the answers that it gives cannot show that one of them is ignored.
+    #[cfg(all(target_arch = "x86_64", target_feature = "sse2"))]
+    #[test]
+    fn avx2_needs_each_answer_of_the_processor() {
+        use super::processor::allows_avx2;
+        const ALL: u32 = u32::MAX;
+        assert!(allows_avx2(7, 1 << 27 | 1 << 28, 1 << 1 | 1 << 2, 1 << 5));
+        for last_leaf in 0..20 {
+            let found = allows_avx2(last_leaf, ALL, u64::MAX, ALL);
+            assert_eq!(found, last_leaf >= 7, "{last_leaf}");
+        }
+        for bit in 0..32 {
+            let found = allows_avx2(ALL, !(1 << bit), u64::MAX, ALL);
+            assert_eq!(found, bit != 27 && bit != 28, "ecx, {bit}");
+            let found = allows_avx2(ALL, ALL, u64::MAX, !(1 << bit));
+            assert_eq!(found, bit != 5, "ebx, {bit}");
+        }
+        for bit in 0..64 {
+            let found = allows_avx2(ALL, ALL, !(1 << bit), ALL);
+            assert_eq!(found, bit != 1 && bit != 2, "register 0, {bit}");
+        }
     }
 
     #[test]
