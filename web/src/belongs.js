@@ -58,6 +58,8 @@ export function differencesFrom(record, announcement, digest) {
   const drawn = announcedCount(announcement);
   if (record.announcement === "none") return ["The record names no announcement. So it does not belong to this one."];
   return [
+    record.announcement === digest && record.list !== list &&
+      "The record names this announcement, but was drawn from another list than the announced one.",
     record.announcement !== digest &&
       `Another announcement: the record names the SHA-256 ${record.announcement}, this announcement has ${digest}.`,
     record.list !== list &&
@@ -90,7 +92,7 @@ export function comparedWith(record, announcement) {
   const { occasion, source, form, example, time } = announcement;
   const warning = seedWarning(record.seed, announcement);
   return [
-    "Compared with the announcement: its SHA-256, that of its list, the number of entrants, and how many are drawn: " +
+    "The record fits the announcement: its SHA-256, that of its list, the number of entrants, and how many are drawn: " +
       `${announcedWords(announcement)}. The first ${announcement.winners} drawn are the winners.`,
     ...(warning === "" ? [] : [{ text: warning, isWarning: true }]),
     `Only you can compare the seed with its source: ${source}. Its form: ${form}, for example ${example}.`,

@@ -7,10 +7,12 @@ import { equalBytes, hex, textOf, utf8 } from "./bytes.js";
 import { draw, resultOf } from "./draw.js";
 import { shown } from "./entrant.js";
 import { RecordError } from "./lines.js";
+import { CARRIAGE_RETURN, LINE_FEED } from "./list.js";
 import { foreignMarked, markedPair } from "./marks.js";
 import { quoted, quotedText } from "./quoted.js";
 import { readRecord } from "./record.js";
 import { Refusal } from "./refusal.js";
+import { tidied } from "./tidy.js";
 
 /**
  * @typedef {Object} Check
@@ -51,6 +53,39 @@ const TITLES = {
     "Nothing was compared.",
   "no list": "The record can be read. Open or paste its list above, and check again.",
 };
+
+/** What is said of a list whose lines are those of the record's list. */
+const OTHER_ENDS = "Only the line ends differ, or an invisible mark at the beginning: the lines are those of the record's " +
+  "list. Programs change these when they copy or save a text. Open the published file itself.";
+/** The bytes of a byte order mark. */
+const ORDER_MARK = [0xef, 0xbb, 0xbf];
+
+/** Bytes with a carriage return before each line feed. @param {Uint8Array} list */
+function withReturns(list) {
+  const longer = new Uint8Array(2 * list.length);
+  let end = 0;
+  for (const byte of list) {
+    if (byte === LINE_FEED) longer[end++] = CARRIAGE_RETURN;
+    longer[end++] = byte;
+  }
+  return longer.subarray(0, end);
+}
+
+/** Whether a list is the one with a SHA-256, but for the ends of its lines and a byte order mark. */
+function hasOtherEnds(module, list, wanted) {
+  const isMarked = ORDER_MARK.every((byte, place) => list[place] === byte);
+  const plain = tidied(isMarked ? list.subarray(ORDER_MARK.length) : list, "returns").list;
+  const open = plain[plain.length - 1] === LINE_FEED ? plain.subarray(0, -1) : plain;
+  const whole = new Uint8Array(open.length + 1);
+  whole.set(open);
+  whole[open.length] = LINE_FEED;
+  return [open, whole].flatMap((one) => [one, withReturns(one)]).some((one) => {
+    const marked = new Uint8Array(ORDER_MARK.length + one.length);
+    marked.set(ORDER_MARK);
+    marked.set(one, ORDER_MARK.length);
+    return [one, marked].some((bytes) => hex(module.digest(bytes)) === wanted);
+  });
+}
 
 /** The outcomes of a record that is that of its draw, and belongs to the announcement if one was given. */
 const AGREES = ["agrees", "other module"];
@@ -200,7 +235,10 @@ function withoutModule({ module }) {
 function differencesOf(module, list, record) {
   const digest = hex(module.digest(list));
   if (digest !== record.list) {
-    return [`${OTHER_LIST} the record names the SHA-256 ${record.list}, this list has ${digest}.`];
+    return [
+      `${OTHER_LIST} the record names the SHA-256 ${record.list}, this list has ${digest}.`,
+      ...(hasOtherEnds(module, list, record.list) ? [OTHER_ENDS] : []),
+    ];
   }
   try {
     const repeated = draw(module, list, record.seed, String(record.drawn));

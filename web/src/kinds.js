@@ -9,6 +9,14 @@ export const START = 100;
 
 const RECORD_START = /^(?:\xef\xbb\xbf)?[\s>]*nanorand public draw/i;
 
+/** The title of a record in a line of its own, quoted or not. */
+const RECORD_BELOW = /(?:^|\n)[ \t>]*nanorand public draw [12][ \t\r]*\n/;
+
+/** Whether a file has a record below other text, as a saved mail has it. @param {Uint8Array} bytes */
+export function hasRecordBelow(bytes) {
+  return RECORD_BELOW.test(new TextDecoder("latin1").decode(bytes));
+}
+
 /** The kind of a file. What has no title is a list. @param {Uint8Array} bytes its first ones, or all @returns {Kind} */
 export function kindOfFile(bytes) {
   if (isAnnouncement(bytes)) return "announcement";

@@ -1,6 +1,6 @@
 // Reads the lines of a record. A mail program may have quoted them, folded them, or added white space at their ends.
 
-import { reasonIn } from "./pasted.js";
+import { AS_FILE, reasonIn } from "./pasted.js";
 
 /** The error for a text that is not a record: the line and the reason. */
 export class RecordError extends Error {
@@ -10,6 +10,9 @@ export class RecordError extends Error {
     this.line = line;
   }
 }
+
+/** What is said of an empty line between others. */
+const SPACED = ` The line is empty, as mail programs add lines. ${AS_FILE}`;
 
 /** The largest number of entrants that a record names. Its SHA-256 of the result covers all. */
 export const NAMED = 1000;
@@ -73,7 +76,10 @@ export function hasName(line, name) {
  */
 export function readLine(lines, index, { name, read, joint, reason = reasonIn }, goesOn) {
   const line = lines[index] ?? "";
-  if (!hasName(line, name)) throw new RecordError(index + 1, `“${name}: ” is missing.${reasonIn(line)}`);
+  if (!hasName(line, name)) {
+    const reason = line === "" && lines.slice(index).some(Boolean) ? SPACED : reasonIn(line);
+    throw new RecordError(index + 1, `“${name}: ” is missing.${reason}`);
+  }
   let text = line.slice(name.length + 2);
   let tried = 0;
   for (let next = index + 1; ; next += 1) {

@@ -1,7 +1,7 @@
 // The list on the page: typed, pasted or opened, changed by buttons, and saved.
 
 import { textOf } from "./bytes.js";
-import { kindOfFile } from "./kinds.js";
+import { hasRecordBelow, kindOfFile } from "./kinds.js";
 import { listOfText } from "./list.js";
 import { Refusal } from "./refusal.js";
 import { client, hideResults, recallResult, refuse, setFacts } from "./session.js";
@@ -182,7 +182,8 @@ async function readFile(file, opened, takeOther) {
   } catch {
     return takeList(opened, { file: null, isUnread: true });
   }
-  const kind = kindOfFile(bytes);
+  const first = kindOfFile(bytes);
+  const kind = first === "list" && tabShown() === "check" && hasRecordBelow(bytes) ? "record" : first;
   if (kind === "list") return takeList(opened, { file: bytes, isUnread: false });
   const isAwaited = leaveOut(opened);
   takeOther(kind, bytes);

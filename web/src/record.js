@@ -46,7 +46,8 @@ function titleIn(lines) {
   const announced = titles.length === 0 ? lines.findIndex(isLikeAnnouncement) : -1;
   if (announced >= 0) throw new RecordError(announced + 1, BELOW);
   const first = lines.findIndex((line) => line !== "");
-  if (first < 0) throw new RecordError(1, "the text is empty.");
+  if (first < 0) throw new RecordError(1, "there is no record yet. Paste it, or open its file. A file " +
+    "that does not begin with the record is taken as the list.");
   return titles[0] ?? first;
 }
 

@@ -86,7 +86,12 @@ function readLines2(lines, first) {
   const { named, next: below } = readNamed2(lines, next, values.drawn);
   let end = below;
   for (const line of [...restOf(values.drawn), END2]) {
-    if (lines[end] !== line) throw new RecordError(end + 1, `“${line}” is missing.${reasonIn(lines[end] ?? "")}`);
+    if (lines[end] !== line) {
+      const found = lines[end] ?? "";
+      const oneMore = ` The record says that ${values.drawn} are drawn, and this line names one more.`;
+      const reason = /^[0-9]+: /.test(found) ? oneMore : reasonIn(found);
+      throw new RecordError(end + 1, `“${line}” is missing.${reason}`);
+    }
     end += 1;
   }
   return { record: { ...values, named }, end };

@@ -51,6 +51,7 @@ export function warningsOf(list) {
     ...doubledIn(lines, isText),
     ...columnsIn(lines),
     blank && { text: `Line ${blank} has nothing that can be seen, but is an entrant.` },
+    ...signsOnlyIn(lines, isText),
     ...alikeIn(lines, isText).map((found) => alikeWarning(found, lines, isText)),
   ].filter(Boolean);
 }
@@ -142,6 +143,20 @@ function columnsIn(lines) {
   return [{
     text: `Each line has ${columns} columns, with “${separator}” between them, and all of them are published. If only ` +
       "one has the names, save that one alone.",
+  }];
+}
+
+/** A warning of lines of signs alone, as a CSV file has them for the empty rows of a spreadsheet. @param {string[]} lines */
+function signsOnlyIn(lines, isText) {
+  const found = new Found();
+  lines.forEach((line, place) => {
+    if (/^[\p{P}\s]+$/u.test(line) && /\p{P}/u.test(line)) found.add(place + 1);
+  });
+  const { count, numbers } = found;
+  return count === 0 ? [] : [{
+    text: `${counted(count, "have", "has")} no letter and no digit, as an empty row of a spreadsheet, but can win: look ` +
+      `at line ${numbers[0]}. Delete such rows where the list was made, and open it again.`,
+    lines: numbers.flatMap((number) => lineShown(lines, number, isText)),
   }];
 }
 

@@ -77,7 +77,7 @@ def whole_way(counts: Counts, page: Page, program: str, module: bytes, downloads
         "agrees", "The record agrees: the same list, the announcement that it names, and the draw repeated here gives "
         "the same result. What only you can compare is said below."])
     counts.same("what was compared", [one.split(":")[0].split(" is ")[0] for one in shown["findings"]], [
-        "Compared with the announcement", 'Only you can compare the seed with its source',
+        "The record fits the announcement", 'Only you can compare the seed with its source',
         'Only you can know when the announcement of "Summer raffle of the school" was published. It has to be before '
         "the seed could be known. The time that it names"])
     counts.same("sheets of paper of the check", sheets(page.browser.printed()), 1)

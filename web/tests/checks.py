@@ -147,19 +147,36 @@ def differences(counts: Counts, page: Page, layout: Layout, record: str) -> None
         outcome(counts, page, "13 drawn of 13", with_value(layout, "\n".join(more), "entrants", 13), "differs",
                 "Cannot draw 13: the list has only 12 entrants.")
     other_lists(counts, page, record)
+    other_line_ends(counts, page)
+    page.load()
+    page.paste(LIST)
 
 
 def other_lists(counts: Counts, page: Page, record: str) -> None:
-    for name, text in (("another order", LIST.replace("Ada\nBarbara", "Barbara\nAda")),
-                       ("no last line feed", LIST[:-1]), ("one more", LIST + "Max\n"),
+    for name, text in (("another order", LIST.replace("Ada\nBarbara", "Barbara\nAda")), ("one more", LIST + "Max\n"),
                        ("a space", LIST.replace("Ada", "Ada "))):
         page.paste(text)
         outcome(counts, page, f"another list: {name}", record, "differs", "Another list:")
-    page.open_file(LIST.replace("\n", "\r\n").encode())
-    outcome(counts, page, "another list: carriage returns", record, "differs", "Another list:")
     page.paste("")
     outcome(counts, page, "no list", record, "no list")
     page.paste(LIST)
+
+
+def other_line_ends(counts: Counts, page: Page) -> None:
+    """Of lists that differ only in line ends and in a byte order mark, the page says so, whichever was published."""
+    lists = {f"{name}, {end!r}, {mark!r}": (mark + LIST[:-1].replace("\n", feed) + end).encode()
+             for name, feed in (("LF", "\n"), ("CRLF", "\r\n")) for end in ("", feed) for mark in ("", "\ufeff")}
+    for name, published in lists.items():
+        page.open_file(published)
+        page.fill("seed", "4")
+        record = page.draw()["record"]
+        for other, opened in lists.items():
+            page.open_file(opened)
+            if opened == published:
+                outcome(counts, page, f"{name} is {other}", record, "agrees")
+            else:
+                outcome(counts, page, f"{name} is not {other}", record, "differs", "Another list:",
+                        "Only the line ends differ, or an invisible mark at the beginning")
 
 
 def no(counts: Counts, page: Page, name: str, text: str, line: int) -> None:

@@ -41,6 +41,8 @@ FORM = "the form of a letter, such as its width"
 SAME_LOOK = "letters or signs that look the same"
 DOUBLED = "1 line has two or more spaces in a row: look at line 2."
 SPACED = "1 line begins or ends with a space or a tab, which belongs to the entrant"
+SIGNS = "no letter and no digit, as an empty row of a spreadsheet, but can win:"
+ROWS = "Delete such rows where the list was made, and open it again."
 ALIKE = {
     "Ada\nada\n": ["1 of the lines equals an earlier line except for upper and lower case: look at line 2."],
     "Ada\nMax\nADA\nmax\n": ["2 of the lines equal an earlier line except for upper and lower case: look at line 3."],
@@ -56,6 +58,9 @@ ALIKE = {
     "\t\nx\n  \n": ["2 lines begin or end with a space or a tab, which belongs to the entrant: look at line 1.",
                     "Line 1 has nothing that can be seen, but is an entrant.",
                     "1 of the lines equals an earlier line except for the spaces at its ends: look at line 3."],
+    "Ada\nBob\n;\n": [f"1 line has {SIGNS} look at line 3. {ROWS}"],
+    "-\nAda\n, ,\n\"\"\n": [f"3 lines have {SIGNS} look at line 1. {ROWS}"],
+    "*\nAda\n\u2605\n\U0001f600\n1;\n": [f"1 line has {SIGNS} look at line 1. {ROWS}"],
     "Ada\nAdah\nA da\n": [],
     "Ada\n\u0410da\n": [f"{ONE} except for {SAME_LOOK}: look at line 2."],
     "\u00cbva\n\u0401va\n": [f"{ONE} except for {SAME_LOOK}: look at line 2."],

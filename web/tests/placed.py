@@ -248,6 +248,26 @@ def lost(counts: Counts, page: Page, texts: Dict[str, bytes]) -> None:
         counts.same(f"the next one, {waits}", [page.facts()["digest"], page.shown()["list"]], [sha256(LIST), ""])
 
 
+def below_a_mail(counts: Counts, page: Page, texts: Dict[str, bytes]) -> None:
+    """A file with a record below other text is the record in a check, and a list for a draw."""
+    for name, text in (("a mail", b"Dear all,\n\n" + texts["record"]),
+                       ("quoted", b"She wrote:\n" + re.sub(rb"(?m)^", b"> ", texts["record"])),
+                       ("Windows", (b"Hello\n" + texts["record"]).replace(b"\n", b"\r\n")),
+                       ("bytes", b"\xff\xfe\n" + texts["record"])):
+        begin(page, "check")
+        put(page, check_announcement="")
+        page.open_file(text)
+        page.browser.wait("return document.getElementById('check-text').value !== 'the record before';")
+        page.open_file(LIST)
+        page.facts()
+        shown = page.check_again()
+        counts.same(f"{name}, in a check", [shown["outcome"], shown["digest"]], ["agrees", sha256(LIST)])
+        begin(page, "draw")
+        page.open_file(b"Eve\nUna\n" + texts["record"].replace(b"\n\n", b"\n"))
+        found = page.facts(keep=False)["digest"]
+        counts.same(f"{name}, for a draw", found != sha256(OTHER_LIST), True)
+
+
 def on_a_field(counts: Counts, page: Page, texts: Dict[str, bytes]) -> None:
     """What is dropped on the field of the announcement and is none stays out of the record, and is an error there."""
     begin(page, "check")
@@ -415,8 +435,8 @@ def commands(counts: Counts, page: Page, texts: Dict[str, bytes], program: str) 
 def run(counts: Counts, page: Page, program: str, module: bytes) -> None:
     page.browser.size(1000, 900)
     texts = texts_of(program, module)
-    for part in (together, two_of_a_kind, together_for_a_draw, opened, fast, three_at_once, lost, on_a_field, mails,
-                 uncompared, published, marks):
+    for part in (together, two_of_a_kind, together_for_a_draw, opened, fast, three_at_once, lost, below_a_mail,
+                 on_a_field, mails, uncompared, published, marks):
         part(counts, page, texts)
     commands(counts, page, texts, program)
     page.load()
