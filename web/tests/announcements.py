@@ -269,14 +269,16 @@ def same_record(text: str, record: str) -> bool:
 
 def forged(counts: Counts, page: Page, program: str, module: bytes) -> None:
     """A record that names an announcement of another list, or of another number: its SHA-256 alone is not enough."""
+    named = "The record names this announcement, but was drawn from another list than the announced one."
     changes: Dict[str, Tuple[Dict[str, Any], List[str]]] = {
         "as it is": ({}, []), "4 winners": ({"winners": 4, "reserves": 0}, []),
-        "another list": ({"digest": "0" * 64}, ["The announcement is of another list: it names the SHA-256 000"]),
+        "another list": ({"digest": "0" * 64},
+                         [named, "The announcement is of another list: it names the SHA-256 000"]),
         "13 entrants": ({"entrants": 13}, ["Entrants: the announcement says 13, the record 12."]),
         "2 winners": ({"winners": 2}, ["Drawn: the announcement says 3 (2 winners and 1 reserve), the record 4."]),
         "no reserve": ({"reserves": 0}, ["Drawn: the announcement says 3 (3 winners), the record 4."]),
         "all": ({"winners": 1, "reserves": 9, "digest": "1" * 64, "entrants": 11},
-                ["The announcement is of another list", "Entrants: ",
+                [named, "The announcement is of another list", "Entrants: ",
                  "Drawn: the announcement says 10 (1 winner and 9"]),
     }
     for name, (values, wanted) in changes.items():
