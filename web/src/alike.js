@@ -122,7 +122,7 @@ export function looksAlike(left, right) {
   return one === other;
 }
 
-/** The number, from 1, of the first line of white space only, or 0. @param {string[]} lines */
-export function blankLine(lines) {
-  return lines.findIndex((line) => line !== "" && trimmed(line) === "") + 1;
+/** Whether a line is of white space only. @param {string} line */
+export function isBlank(line) {
+  return line !== "" && trimmed(line) === "";
 }

@@ -51,6 +51,19 @@ function announceDraw(announced) {
   compareSeed();
 }
 
+/** The occasion of the announcement that is open, if it is of the list that is open; or an empty text. */
+export function occasionOfList() {
+  const { announced, facts } = session;
+  const isOfList = announced !== null && facts !== null && unannouncedList(announced.announcement, facts) === null;
+  return isOfList ? announced.announcement.occasion : "";
+}
+
+/** The occasion of the announcement of the result that is shown, if that announcement is open; or an empty text. */
+export function occasionOfResult() {
+  const { announced, result } = session;
+  return announced !== null && result?.announced === announced.digest ? announced.announcement.occasion : "";
+}
+
 /** Says so if the list that is open is not the announced one. */
 export function compareList() {
   const { announced, facts } = session;

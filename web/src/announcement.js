@@ -73,6 +73,14 @@ export function isAnnouncement(bytes) {
   return /^(?:\xef\xbb\xbf)?[\s>]*nanorand announcement/i.test(start);
 }
 
+/** The title of an announcement in a line of its own, quoted or not. */
+const TITLE_BELOW = new RegExp(`(?:^|\n)[ \t>]*${ANNOUNCEMENT_TITLE}[ \t\r]*\n`);
+
+/** Whether a file has an announcement below other text, as a saved mail has it. @param {Uint8Array} bytes */
+export function hasAnnouncementBelow(bytes) {
+  return TITLE_BELOW.test(new TextDecoder("latin1").decode(bytes));
+}
+
 /** Throws unless a line is the one that stands at its place. */
 function expectLine(lines, index, wanted) {
   const line = lines[index] ?? "";
@@ -137,6 +145,10 @@ export function readAnnouncementFile(bytes) {
  */
 export function readPastedAnnouncement(text) {
   const lines = linesOfRecord(text);
-  const first = lines.findIndex((line) => line !== "");
-  return readAnnouncedLines(lines, Math.max(first, 0), announcementGoesOn);
+  const first = Math.max(lines.findIndex((line) => line !== ""), 0);
+  const title = lines.indexOf(ANNOUNCEMENT_TITLE);
+  if (title > first) {
+    throw new RecordError(first + 1, `the announcement begins in line ${title + 1}. Remove the lines above it.`);
+  }
+  return readAnnouncedLines(lines, first, announcementGoesOn);
 }

@@ -45,8 +45,9 @@ function sayEnough() {
   const winners = winnersTyped();
   const values = presetValues();
   const isKnown = winners !== null && values !== null;
+  const { asks, seeds } = preset();
   sayOnce("enough", isKnown
-    ? enoughWords({ entrants: session.facts.entrants, winners }, preset().seeds(values)) : "");
+    ? enoughWords({ entrants: session.facts.entrants, winners }, seeds(values), asks.includes("throws")) : "");
 }
 
 /** Says whether the announcement that was saved or printed is that of the fields and the list. */
@@ -135,12 +136,13 @@ async function makeAnnouncement(word) {
     refuseField(fault);
     return null;
   }
-  const text = writeAnnouncement(announcementOf(fields, facts));
+  const announcement = announcementOf(fields, facts);
+  const text = writeAnnouncement(announcement);
   const { turn } = announcing;
   try {
     const digest = await client.ask("digest", { text });
     if (turn !== announcing.turn) return null;
-    announcing.made = { text, digest };
+    announcing.made = { text, digest, occasion: announcement.occasion };
     announcing.word = word;
     showAnnouncement(text, digest);
     return text;
@@ -170,6 +172,11 @@ export async function saveAnnouncement() {
 /** @returns {Uint8Array} the bytes of the announcement that was saved or printed */
 export function bytesMade() {
   return utf8(announcing.made.text);
+}
+
+/** @returns {string} the occasion of the announcement that was saved or printed, quoted, or an empty text */
+export function occasionMade() {
+  return announcing.made?.occasion ?? "";
 }
 
 /** Prints the announcement. @param {(paper: "announcement") => void} print */

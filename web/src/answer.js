@@ -5,8 +5,17 @@ import { grouped, itemize, itemOf, nodesOf, noteOf, part, say } from "./view.js"
 /** How many entrants of a record the answer shows. */
 const ANSWERED = 100;
 
+/** What the answer that is shown says of the occasion, for paper. */
+const answered = { occasion: "" };
+
+/** The occasion of the announcement to which the record belongs, quoted, or an empty text. */
+export function occasionChecked() {
+  return part("outcome").hidden ? "" : answered.occasion;
+}
+
 /** @param {import("./check.js").Check} check */
 export function showCheck({ outcome, title, findings, reading }) {
+  answered.occasion = reading?.occasion ?? "";
   part("outcome").hidden = false;
   part("outcome").dataset.outcome = outcome;
   say("outcome-title", title);

@@ -41,6 +41,7 @@ import { tidied } from "./tidy.js";
  * @property {number} drawn
  * @property {import("./entrant.js").Shown[]} named
  * @property {?number} winners how many of these are winners, if the record agrees and its announcement was given
+ * @property {?string} occasion of this announcement, quoted, in the same case
  */
 
 const TITLES = {
@@ -85,6 +86,16 @@ function hasOtherEnds(module, list, wanted) {
     marked.set(one, ORDER_MARK.length);
     return [one, marked].some((bytes) => hex(module.digest(bytes)) === wanted);
   });
+}
+
+/** As `hasOtherEnds`, but false if there is not enough memory for copies of the list. */
+function differsOnlyInEnds(module, list, wanted) {
+  try {
+    return hasOtherEnds(module, list, wanted);
+  } catch (error) {
+    if (error instanceof RangeError) return false;
+    throw error;
+  }
 }
 
 /** The outcomes of a record that is that of its draw, and belongs to the announcement if one was given. */
@@ -136,7 +147,8 @@ function checked(outcome, findings, record = null, title = TITLES[outcome]) {
 function readingOf({ lines, others, announcement, seed, list, entrants, drawn, named }) {
   const shownSeed = foreignMarked(quotedText(seed));
   const shownNamed = named.map(shown);
-  return { lines, others, announcement, seed: shownSeed, list, entrants, drawn, named: shownNamed, winners: null };
+  const given = { winners: null, occasion: null };
+  return { lines, others, announcement, seed: shownSeed, list, entrants, drawn, named: shownNamed, ...given };
 }
 
 /**
@@ -176,7 +188,10 @@ export function check(module, maker, list, { text, announced = null }) {
   const { value: named, failed: unread } = readOr(() => announcedFrom(module, announced), "no announcement", record);
   if (unread) return unread;
   const answer = compared(module, maker, list, record, named);
-  if (named !== null && AGREES.includes(answer.outcome)) answer.reading.winners = named.announcement.winners;
+  if (named !== null && AGREES.includes(answer.outcome)) {
+    const { winners, occasion } = named.announcement;
+    Object.assign(answer.reading, { winners, occasion });
+  }
   return answer;
 }
 
@@ -237,7 +252,7 @@ function differencesOf(module, list, record) {
   if (digest !== record.list) {
     return [
       `${OTHER_LIST} the record names the SHA-256 ${record.list}, this list has ${digest}.`,
-      ...(hasOtherEnds(module, list, record.list) ? [OTHER_ENDS] : []),
+      ...(differsOnlyInEnds(module, list, record.list) ? [OTHER_ENDS] : []),
     ];
   }
   try {

@@ -76,7 +76,8 @@ export async function readForField(file, field, take) {
 export function showForCheck(kind, bytes) {
   const field = part(kind === "announcement" ? "check-announcement" : "check-text");
   field.value = new TextDecoder("utf-8", { ignoreBOM: true }).decode(bytes);
-  if (kind === "announcement") dropped.announcement = { bytes, text: field.value };
+  const isFile = kindOfFile(bytes) === "announcement";
+  if (kind === "announcement") dropped.announcement = isFile ? { bytes, text: field.value } : null;
   recordChanged();
   tell(`Opened as the ${kind}`);
 }

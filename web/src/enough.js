@@ -61,7 +61,12 @@ function throwsWords(needed) {
 }
 
 const MEANING = " Enough means: at least as many seeds as sets of winners, so that no set is impossible by counting. " +
-  `With exactly as many, some sets still come from no seed. So take at least ${MORE_THROWS} throws of a die (or 5 bits) more than that.`;
+  "With exactly as many, some sets still come from no seed.";
+
+/** What to add to a seed that is just enough. @param {boolean} isThrown whether there are throws of a die in it */
+function adviceOf(isThrown) {
+  return isThrown ? ` So throw the die at least ${MORE_THROWS} times more than that.` : " So the seed should have 5 bits more than that.";
+}
 
 /** @param {?bigint} seeds @param {bigint} sets @param {string} words */
 function verdictOf(seeds, sets, words) {
@@ -74,14 +79,15 @@ function verdictOf(seeds, sets, words) {
  * Says how many sets of winners there are, and whether the seeds of a form are enough for them.
  * @param {{entrants: number, winners: number}} draw
  * @param {{seeds: ?bigint, words: string}} form how many seeds it has, or null, and what they are
+ * @param {boolean} isThrown whether there are throws of a die in a seed
  * @returns {string}
  */
-export function enoughWords({ entrants, winners }, { seeds, words }) {
+export function enoughWords({ entrants, winners }, { seeds, words }, isThrown) {
   const sets = setsOf(entrants, winners);
   const count = `${winners} of ${entrants}: ${asPower(bitsOfSets(entrants, winners))} sets of winners could come.`;
   if (sets === null) {
     return `${count} That is more than the 2^256 keys that seeds are turned into, so no form of the seed is enough ` +
       `for all sets. ${throwsFor(sets)} throws of a die use all keys that there are.`;
   }
-  return `${count} ${verdictOf(seeds, sets, words)}${throwsWords(throwsFor(sets))}${MEANING}`;
+  return `${count} ${verdictOf(seeds, sets, words)}${throwsWords(throwsFor(sets))}${MEANING}${adviceOf(isThrown)}`;
 }

@@ -1,7 +1,7 @@
 // The list on the page: typed, pasted or opened, changed by buttons, and saved.
 
 import { textOf } from "./bytes.js";
-import { hasRecordBelow, kindOfFile } from "./kinds.js";
+import { kindBelow, kindOfFile } from "./kinds.js";
 import { listOfText } from "./list.js";
 import { Refusal } from "./refusal.js";
 import { client, hideResults, recallResult, refuse, setFacts } from "./session.js";
@@ -183,7 +183,7 @@ async function readFile(file, opened, takeOther) {
     return takeList(opened, { file: null, isUnread: true });
   }
   const first = kindOfFile(bytes);
-  const kind = first === "list" && tabShown() === "check" && hasRecordBelow(bytes) ? "record" : first;
+  const kind = first === "list" && tabShown() === "check" ? kindBelow(bytes) : first;
   if (kind === "list") return takeList(opened, { file: bytes, isUnread: false });
   const isAwaited = leaveOut(opened);
   takeOther(kind, bytes);

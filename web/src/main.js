@@ -1,9 +1,11 @@
 // The web page: what its fields and buttons do.
 
-import { compareList, compareSeed, openMade, takeAway } from "./announced.js";
+import { compareList, compareSeed, occasionOfList, occasionOfResult, openMade, takeAway } from "./announced.js";
 import {
-  announceList, announceTyped, beginAnnouncing, bytesMade, presetChosen, printAnnouncement, saveAnnouncement,
+  announceList, announceTyped, beginAnnouncing, bytesMade, occasionMade, presetChosen, printAnnouncement,
+  saveAnnouncement,
 } from "./announcing.js";
+import { occasionChecked } from "./answer.js";
 import { announcementTyped, checkNow, recordChanged } from "./checking.js";
 import { showResult } from "./drawn.js";
 import { fileChosen, filesDropped } from "./files.js";
@@ -95,10 +97,18 @@ async function start() {
 /** What a button prints, while it does so. The browser's own menu prints what the tab shows. */
 let paperAsked;
 
-/** @param {"list"|"announcement"|"result"|"check"} paper */
+/** The occasion of the announcement of what is printed, quoted, or an empty text. @type {Record<string, () => string>} */
+const OCCASIONS = { list: occasionOfList, announcement: occasionMade, result: occasionOfResult, check: occasionChecked };
+
+/** Shows what is printed, and the occasion if an announcement says it. @param {import("./view.js").Paper} [paper] */
+function showPrinted(paper) {
+  part("paper-occasion").textContent = OCCASIONS[showPaper(paper)]();
+}
+
+/** @param {import("./view.js").Paper} paper */
 function printPaper(paper) {
   paperAsked = paper;
-  showPaper(paper);
+  showPrinted(paper);
   print();
   paperAsked = undefined;
 }
@@ -172,8 +182,8 @@ on("save-result", "click", () => save(session.result.bytes, "result.txt"));
 for (const [id, paper] of [["print-list", "list"], ["print", "result"], ["print-check", "check"]]) {
   on(id, "click", () => printPaper(paper));
 }
-addEventListener("beforeprint", () => showPaper(paperAsked));
-addEventListener("afterprint", () => showPaper());
+addEventListener("beforeprint", () => showPrinted(paperAsked));
+addEventListener("afterprint", () => showPrinted());
 addEventListener("beforeunload", askToLeave);
 session.watch = () => {
   announceList();

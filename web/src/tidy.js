@@ -1,6 +1,6 @@
 // Changes that the owner of a list may want. The changed list has another SHA-256.
 
-import { isSpace } from "./alike.js";
+import { isBlank, isSpace } from "./alike.js";
 import { textOf, utf8 } from "./bytes.js";
 import { resultOf } from "./draw.js";
 import { converted } from "./encoding.js";
@@ -34,6 +34,11 @@ function withoutDoubled(line) {
   return single.length < line.length ? single : line;
 }
 
+/** Whether a line has something other than white space, or nothing at all. @param {Uint8Array} line */
+function isNotBlank(line) {
+  return !isBlank(new TextDecoder("latin1").decode(line));
+}
+
 /** The lines without repetitions: the first of equal lines stays. @param {Uint8Array[]} lines */
 function unique(lines) {
   const letters = new TextDecoder("latin1");
@@ -51,6 +56,7 @@ function without(line, name) {
 /** What a change makes of the lines of a list, and what the page says of the lines that it changes. */
 const CHANGES = {
   empty: { of: (lines) => lines.filter((line) => line.length > 0), verb: "removed" },
+  blank: { of: (lines) => lines.filter(isNotBlank), verb: "removed" },
   trim: { of: (lines) => lines.map(trimmedBytes), verb: "made shorter" },
   returns: { of: (lines) => lines.map(withoutReturn), verb: "made shorter" },
   doubled: { of: (lines) => lines.map(withoutDoubled), verb: "made shorter" },

@@ -233,11 +233,14 @@ export function goTo(id) {
   part(id).scrollIntoView({ block: "start" });
 }
 
+/** @typedef {"list"|"announcement"|"result"|"check"} Paper */
+
 const PAPERS = { list: "the closed list", announcement: "the announcement", result: "the result", check: "a check" };
 
 /**
  * Decides what is printed, with its title and the date.
- * @param {"list"|"announcement"|"result"|"check"} [paper] or else the one of the tab, with a result if there is one
+ * @param {Paper} [paper] or else the one of the tab, with a result if there is one
+ * @returns {Paper}
  */
 export function showPaper(paper) {
   const ofDraw = part("result").hidden ? "list" : "result";
@@ -246,6 +249,7 @@ export function showPaper(paper) {
   say("paper-title", `Public draw: ${PAPERS[chosen]}`);
   const date = new Intl.DateTimeFormat("en-GB", { dateStyle: "full", timeStyle: "long" });
   say("paper-date", `Printed on ${date.format(new Date())}`);
+  return chosen;
 }
 
 /** Tells screen readers something for two seconds. @param {string} text */

@@ -1,6 +1,6 @@
 // Warnings about a list, for its owner. None of them is an error.
 
-import { alikeIn, blankLine } from "./alike.js";
+import { alikeIn, isBlank } from "./alike.js";
 import { textOf } from "./bytes.js";
 import { partsOf } from "./entrant.js";
 import { INVISIBLE, kindsIn } from "./invisible.js";
@@ -42,15 +42,14 @@ export function warningsOf(list) {
   const lines = (text ?? new TextDecoder("latin1").decode(list)).split("\n");
   if (lines[lines.length - 1] === "") lines.pop();
   const isText = text !== null;
-  const blank = blankLine(lines);
   return [
     ...ofBytes(list, text),
     ...spacesIn(lines, isText),
     ...(isText ? invisibleIn(lines) : []),
     ...(isText ? ofMac(lines) : []),
     ...doubledIn(lines, isText),
-    ...columnsIn(lines),
-    blank && { text: `Line ${blank} has nothing that can be seen, but is an entrant.` },
+    ...columnsIn(lines, isText),
+    ...blankIn(lines),
     ...signsOnlyIn(lines, isText),
     ...alikeIn(lines, isText).map((found) => alikeWarning(found, lines, isText)),
   ].filter(Boolean);
@@ -133,8 +132,8 @@ function doubledIn(lines, isText) {
   }];
 }
 
-/** A warning if each line has the same number of columns, as in a CSV file. @param {string[]} lines */
-function columnsIn(lines) {
+/** Warnings if each line has the same number of columns, as in a CSV file. @param {string[]} lines @param {boolean} isText */
+function columnsIn(lines, isText) {
   const separator = [";", ","].find((sign) => lines.length > 1 && lines.every((line) =>
     line.includes(sign) && !line.includes(`${sign} `) &&
     line.split(sign).length === lines[0].split(sign).length));
@@ -143,6 +142,31 @@ function columnsIn(lines) {
   return [{
     text: `Each line has ${columns} columns, with “${separator}” between them, and all of them are published. If only ` +
       "one has the names, save that one alone.",
+  }, ...gapsIn(lines, separator, isText)];
+}
+
+/** A warning of lines with an empty column that other lines fill. @param {string[]} lines @param {string} separator */
+function gapsIn(lines, separator, isText) {
+  const rows = lines.map((line) => line.split(separator).map((cell) => cell.trim() !== ""));
+  const isUsed = rows[0].map((_, column) => rows.some((row) => row[column]));
+  const found = new Found();
+  rows.forEach((row, place) => {
+    if (row.some((isFilled, column) => !isFilled && isUsed[column]) && row.includes(true)) found.add(place + 1);
+  });
+  const { count, numbers } = found;
+  return count === 0 ? [] : [{
+    text: `${counted(count, "have an empty column", "has an empty column")} that other lines fill: look at line ` +
+      `${numbers[0]}. If the name is missing, the line can win all the same.`,
+    lines: numbers.flatMap((number) => lineShown(lines, number, isText)),
+  }];
+}
+
+/** A warning of lines of white space only. @param {string[]} lines */
+function blankIn(lines) {
+  const first = lines.findIndex(isBlank) + 1;
+  return first === 0 ? [] : [{
+    text: `Line ${first} has nothing that can be seen, but is an entrant.`,
+    cure: { change: "blank", label: "Remove such lines" },
   }];
 }
 

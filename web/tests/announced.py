@@ -2,6 +2,7 @@
 
 import re
 from pathlib import Path
+from typing import List
 
 from announcements import EXAMPLE, KNOWN, LIST, SAMPLE, SEED, with_text, without_marks
 from announcing import FIELDS, begun, pressed, put, saved, saved_file, seen
@@ -82,6 +83,46 @@ def whole_way(counts: Counts, page: Page, program: str, module: bytes, downloads
         "the seed could be known. The time that it names"])
     counts.same("sheets of paper of the check", sheets(page.browser.printed()), 1)
     counts.same("who won", seen(page, "drawn-label"), ["Winners (the first 3), and then reserves"])
+
+
+# What the page prints as the occasion when a button is pressed. The browser's own printing is left out.
+OCCASION = """
+window.print = () => { window.occasion = document.getElementById("paper-occasion").textContent; };
+document.getElementById(arguments[0]).click();
+return window.occasion;
+"""
+
+
+def occasions(counts: Counts, page: Page) -> None:
+    """The paper names the occasion if the announcement of what is printed says it. Otherwise its line is blank."""
+    def printed(*buttons: str) -> List[str]:
+        return [page.browser.run(OCCASION, button) for button in buttons]
+
+    page.load()
+    page.open_file(LIST)
+    page.facts()
+    page.fill(SEED, "4")
+    shown = page.draw()
+    counts.same("without an announcement", printed("print-list", "print"), ["", ""])
+    page.check(shown["record"])
+    counts.same("a check without an announcement", printed("print-check"), [""])
+    page.tab("draw")
+    opened(page, KNOWN.encode())
+    counts.same("a draw before its announcement was opened", printed("print-list", "print"), [EXAMPLE.occasion, ""])
+    record = page.draw()["record"]
+    counts.same("an announced draw", printed("print-list", "print"), [EXAMPLE.occasion, EXAMPLE.occasion])
+    page.open_file(LIST + b"Max\n")
+    page.facts()
+    counts.same("another list", printed("print-list"), [""])
+    page.open_file(LIST)
+    page.facts()
+    page.browser.run("document.getElementById('take-away').click();")
+    counts.same("taken away", printed("print-list", "print"), ["", ""])
+    for name, announced, wanted in (("its announcement", KNOWN, EXAMPLE.occasion), ("none", "", ""),
+                                    ("another", KNOWN.replace("12:00", "12:01"), ""), ("no announcement", "x", "")):
+        put(page, check_announcement=announced)
+        page.check(record)
+        counts.same(f"a check with {name}", printed("print-check"), [wanted])
 
 
 def made_here(counts: Counts, page: Page, program: str, module: bytes) -> None:
@@ -260,10 +301,15 @@ def check_fields(counts: Counts, page: Page, program: str, module: bytes) -> Non
     for name, text, wanted in (("as it is", KNOWN, "agrees"), ("of a mail", marked, "agrees"),
                                ("blank", " \n ", "agrees"),
                                ("another", KNOWN.replace("12:00", "12:01"), "differs"),
-                               ("none", "x", "no announcement"),
+                               ("none", "x", "no announcement"), ("below a text", f"Hello\n{KNOWN}", "no announcement"),
                                ("cut", KNOWN[:-30], "no announcement"), ("the record", record, "no announcement")):
         put(page, check_announcement=text)
         counts.same(f"an announcement: {name}", page.check(record)["outcome"], wanted)
+    for name, above, line, begin in (("a greeting", "Dear all,\n\n", 1, 3), ("empty lines", "\n\nHello\n", 3, 4),
+                                     ("a quoted mail", "> Hello\n> ", 1, 2)):
+        put(page, check_announcement=above + KNOWN)
+        counts.same(f"an announcement below {name}", page.check(record)["findings"],
+                    [f"Line {line}: the announcement begins in line {begin}. Remove the lines above it."])
     page.tab("check")
     for name, data, wanted in (("as it is", KNOWN.encode(), "agrees"),
                                ("Windows", KNOWN.replace("\n", "\r\n").encode(), "no announcement"),
@@ -313,6 +359,7 @@ def run(counts: Counts, page: Page, program: str, module: bytes, downloads: Path
     page.browser.size(1000, 900)
     whole_way(counts, page, program, module, downloads)
     made_here(counts, page, program, module)
+    occasions(counts, page)
     for part in (refused, unreadable, forms):
         part(counts, page)
     check_fields(counts, page, program, module)

@@ -175,8 +175,9 @@ def combined(throws: int) -> int:
 def enough(counts: Counts, page: Page) -> None:
     """The page says how many sets there are, how many bits the seed has, and whether that is enough."""
     meaning = (" Enough means: at least as many seeds as sets of winners, so that no set is impossible by counting. "
-               "With exactly as many, some sets still come from no seed. So take at least 2 throws of a die (or 5 "
-               "bits) more than that.")
+               "With exactly as many, some sets still come from no seed. So ")
+    thrown, others = (f"{meaning}{advice} more than that." for advice in (
+        "throw the die at least 2 times", "the seed should have 5 bits"))
     begun(page, "".join(f"n{number}\n" for number in range(340)).encode(), winners="12", reserves="0")
     counts.same("12 of 340 in throws", seen(page, "preset-throws"), ["30"])
     sets = "12 of 340: 2^71.8 sets of winners could come."
@@ -196,12 +197,13 @@ def enough(counts: Counts, page: Page) -> None:
              "estimate; 20 throws of a die)", True)):
         page.browser.run(CHOOSE, preset)
         put(page, **{f"preset_{name}": value for name, value in values.items()})
-        wanted = f"{sets} The seed has {has}. {'That is enough.' if is_enough else few} {throws}{meaning}"
+        wanted = f"{sets} The seed has {has}. {'That is enough.' if is_enough else few} {throws}"
+        wanted += thrown if "throws" in values else others
         counts.same(f"{preset}, {values}", seen(page, "enough")[0], wanted)
     page.browser.run(CHOOSE, "other")
     counts.same("something else", seen(page, "enough")[0],
                 f"{sets} How many seeds this form has, the page cannot know. There have to be as many as sets. {throws}"
-                + meaning)
+                + others)
     page.browser.run(CHOOSE, "die")
     for winners in ("", "0", "341", "x"):
         put(page, winners=winners)
@@ -211,7 +213,7 @@ def enough(counts: Counts, page: Page) -> None:
         found = seen(page, "enough")[0]
         begin = f"{winners} of 340: 2^{math.log2(math.comb(340, winners)):.1f} sets of winners could come."
         is_more = math.comb(340, winners) > 2**256
-        end = "100 throws of a die use all keys that there are." if is_more else meaning
+        end = "100 throws of a die use all keys that there are." if is_more else thrown
         least = needed(math.comb(340, winners))
         right = found.startswith(begin) and found.endswith(end) and (
             is_more or winners == 340 or re.search(rf"\b{least} throws? of a die (is|are) enough", found) is not None)
@@ -442,8 +444,10 @@ def stale(counts: Counts, page: Page) -> None:
 def paper(counts: Counts, page: Page) -> None:
     """The announcement is printed on one sheet: its text, its SHA-256 and the lines for signatures."""
     begun(page, source="x" * 500)
-    page.browser.run("window.print = () => {};")
+    page.browser.run("""window.print = () => {
+        window.occasion = document.getElementById("paper-occasion").textContent; };""")
     pressed(page, "print-announcement")
+    counts.same("the occasion on paper", page.browser.run("return window.occasion;"), EXAMPLE.occasion)
     page.browser.run("document.getElementById('panel').dataset.paper = 'announcement'; window.showAgain = () => {};")
     if page.browser.media("print"):
         counts.same("on paper", page.browser.run(PAPER),

@@ -398,6 +398,9 @@ def emptied(counts: Counts, page: Page) -> None:
     page.browser.wait("return document.getElementById('list-text').value === arguments[0];", "\n\n", seconds=20)
 
 
+NAMELESS = "If the name is missing, the line can win all the same."
+
+
 def more_warnings(counts: Counts, page: Page) -> None:
     """Carriage returns and columns have warnings, and what is said can be done."""
     page.load()
@@ -406,13 +409,25 @@ def more_warnings(counts: Counts, page: Page) -> None:
     counts.same("carriage returns are removed", changed(page, "Remove the carriage returns")["digest"],
                 sha256(b"Ada \nBob\n"))
     counts.same("spaces are removed", changed(page, "Remove these spaces")["digest"], sha256(b"Ada\nBob\n"))
+    page.open_file(b"Ada\n \t\nBob\n\t")
+    page.facts()
+    counts.same("lines that cannot be seen are removed", changed(page, "Remove such lines")["digest"],
+                sha256(b"Ada\nBob"))
     for text, sign in (("1;Ada;Rome\n2;Bob;Oslo\n", ";"), ("1,Ada,Rome\n2,Bob,Oslo\n", ","),
                        ("1;Ada;Rome\n2;Bob\n", ""), ("Abel, Ada\nBrown, Bob\n", ""), ("Ada\nBob\n", ""),
-                       ("1;Ada;Rome\n", "")):
+                       ("1;Ada;Rome\n", ""), ("1;;Rome\n2;;Oslo\n", ";")):
         page.paste(text)
         wanted = [f"Each line has 3 columns, with “{sign}” between them, and all of them are published. If only one "
                   "has the names, save that one alone."] if sign else []
         counts.same(f"the columns of {text!r}", page.facts()["warnings"], wanted)
+    many = " have an empty column that other lines fill: look at line "
+    for text, wanted in (("Ada;5b\n;5b\nBob;\n", f"2 lines{many}2. {NAMELESS}"),
+                         ("Ada,Abel,\n ,Brown,\nEve,Cole,\n", f"1 line{many.replace('have', 'has')}2. {NAMELESS}"),
+                         ("Ada;\n;\n", ""), (";5b\n;6a\n", ""), ("Ada;5b\n ; \n", "")):
+        page.paste(text)
+        found = [one for one in page.facts()["warnings"] if "empty column" in one]
+        counts.same(f"empty columns of {text!r}", [one.split(" Line 2: ")[0] for one in found],
+                    [wanted] if wanted else [])
 
 
 def closed_files(counts: Counts, page: Page) -> None:

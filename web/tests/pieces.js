@@ -478,19 +478,47 @@ function longSpaces() {
   }
 }
 
+/** Lines of white space only are removed. Empty lines and other lines stay. */
+function blankLines() {
+  for (const [list, wanted, count] of [["a\n \nb\n", "a\nb\n", 1], ["\t\r\n\v \n a \n", " a \n", 2], ["a\n  ", "a", 1],
+    ["a\n\n\u00ff \n", "a\n\n\u00ff \n", 0], [" \n\na", "\na", 1], ["\u00a0\na\n", "\u00a0\na\n", 0], [" \n", "", 1]]) {
+    const found = tidied(utf8(list), "blank");
+    same(`without blank lines: ${JSON.stringify(list)}`, [textOf(found.list), found.changed], [wanted, count]);
+  }
+  same("without blank lines, bytes", Array.from(tidied(Uint8Array.of(32, 10, 255, 10), "blank").list), [255, 10]);
+}
+
+/** If there is no memory for copies of a list, a check still says that it is another list. */
+function copiesWithoutMemory() {
+  for (const calls of [1, 2, 3, 5]) {
+    let left = calls;
+    const module = { digest() {
+      if (left === 0) throw new RangeError("no room");
+      left -= 1;
+      return new Uint8Array(32).fill(7);
+    } };
+    const maker = { version: null, module: RECORD.module, otherModule: "", words: "", otherWords: "" };
+    const { outcome, findings } = check(module, maker, utf8("a\nb\n"), { text: writeRecord(RECORD) });
+    same(`memory for ${calls} sums`, [outcome, findings[0].text.startsWith("Another list:"), findings[1].text.includes("line ends")],
+      ["differs", true, false]);
+  }
+}
+
 /** Values at the ends of what is told apart. */
 function limits() {
   const cutOf = (length) => previewOf(utf8(`${"a".repeat(length)}\n`), 1)[0].isCut;
   same("a preview of 200 and of 201 bytes", [cutOf(200), cutOf(201)], [false, true]);
   const lengths = (length) => formDifferences("a".repeat(length - 1), "a".repeat(length)).length;
   same("another length of 15 and of 16", [lengths(15), lengths(16)], [0, 1]);
-  const isEnough = (seeds) => enoughWords({ entrants: 6, winners: 1 }, { seeds, words: "w" }).includes("That is enough.");
+  const isEnough = (seeds) => enoughWords({ entrants: 6, winners: 1 }, { seeds, words: "w" }, true).includes("That is enough.");
   same("as many seeds as sets, and fewer", [isEnough(6n), isEnough(5n)], [true, false]);
   same("U+0000 beside a mark", markedPair("a\0b", "a\0B")[0].parts, ["a", 0, [98]]);
 }
 
 errors();
 longSpaces();
+blankLines();
+copiesWithoutMemory();
 limits();
 statuses();
 versions();

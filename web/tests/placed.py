@@ -268,6 +268,29 @@ def below_a_mail(counts: Counts, page: Page, texts: Dict[str, bytes]) -> None:
         counts.same(f"{name}, for a draw", found != sha256(OTHER_LIST), True)
 
 
+def announced_in_a_mail(counts: Counts, page: Page, texts: Dict[str, bytes]) -> None:
+    """A file with an announcement below other text is no list to check: it goes into its field, with what to do."""
+    for name, text in (("a mail", b"Dear all,\n\n" + texts["announcement"]),
+                       ("quoted", b"She wrote:\n\n" + re.sub(rb"(?m)^", b"> ", texts["announcement"])),
+                       ("Windows", (b"Hello\n\n" + texts["announcement"]).replace(b"\n", b"\r\n"))):
+        begin(page, "check")
+        page.open_file(LIST)
+        page.facts()
+        put(page, check_text=texts["record"].decode(), check_announcement="")
+        page.open_file(text)
+        page.browser.wait("return document.getElementById('check-announcement').value;")
+        shown = page.check_again()
+        counts.same(f"an announcement in {name}", [shown["outcome"], shown["findings"], shown["digest"]],
+                    ["no announcement", ["Line 1: the announcement begins in line 3. Remove the lines above it."],
+                     sha256(LIST)])
+        put(page, check_announcement=texts["announcement"].decode())
+        counts.same(f"{name}: without the lines above it", page.check_again()["outcome"], "agrees")
+        begin(page, "draw")
+        page.open_file(b"Eve\nUna\n" + texts["announcement"])
+        counts.same(f"{name}, for a draw", page.facts(keep=False)["digest"],
+                    sha256(b"Eve\nUna\n" + texts["announcement"]))
+
+
 def on_a_field(counts: Counts, page: Page, texts: Dict[str, bytes]) -> None:
     """What is dropped on the field of the announcement and is none stays out of the record, and is an error there."""
     begin(page, "check")
@@ -436,7 +459,7 @@ def run(counts: Counts, page: Page, program: str, module: bytes) -> None:
     page.browser.size(1000, 900)
     texts = texts_of(program, module)
     for part in (together, two_of_a_kind, together_for_a_draw, opened, fast, three_at_once, lost, below_a_mail,
-                 on_a_field, mails, uncompared, published, marks):
+                 announced_in_a_mail, on_a_field, mails, uncompared, published, marks):
         part(counts, page, texts)
     commands(counts, page, texts, program)
     page.load()
