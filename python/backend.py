@@ -1,10 +1,10 @@
 """Builds the Python package, for pip (PEP 517 and PEP 660) and for python/build.py.
 
 The C files of python/native and the static library become one extension module, which exports `PyInit__native`
-alone. Equal sources give equal bytes in every folder, by the same compilers and linker. The library is the first there
-is of: the file that the variable NANORAND_LIBRARY names; lib/libnanorand.a, as in the unpacked archive; and what
-c/install compiles with rustc (the variable RUSTC, or `rustc`). It takes a C compiler (the variable CC, or Python's own,
-or `cc`), and no network.
+alone. With the same compilers and linker, equal sources give equal bytes in every folder. The library is the file that
+the variable NANORAND_LIBRARY names. If that is not set, it is lib/libnanorand.a, which the unpacked archive has, or
+else what c/install compiles with rustc (the variable RUSTC, or `rustc`). A build needs a C compiler (the variable CC,
+or Python's own, or `cc`), and no network.
 
 pip runs this file before it knows whether the Python is new enough. So Python 3.8 has to be able to read it.
 """
@@ -145,7 +145,7 @@ def library(room):
 
 
 def headers():
-    """The folders of Python's own headers, which Debian has in a package apart."""
+    """The folders of Python's own headers, which Debian has in a separate package."""
     folders = sorted({sysconfig.get_path("include"), sysconfig.get_path("platinclude")})
     if not any((Path(folder) / "Python.h").is_file() for folder in folders):
         raise BuildFailed(f"there is no Python.h in {' or '.join(folders)}: on Debian, install python3-dev")
@@ -175,7 +175,7 @@ def check(module):
 
 
 def platform_of(module):
-    """The platform of a wheel's tag: any Linux of today, if the module needs nothing of a later C library."""
+    """The platform of a wheel's tag: manylinux, if the module needs no symbol of a glibc newer than OLDEST_LIBC."""
     own = re.sub(r"\W", "_", sysconfig.get_platform())
     versions = [re.search(r"@+GLIBC_([\d.]+)$", symbol) for symbol in symbols(module, "--undefined-only")]
     newest = max((tuple(map(int, found[1].split("."))) for found in versions if found), default=OLDEST_LIBC)

@@ -12,7 +12,7 @@ build_prints() {
     return 1
 }
 
-# It sets the hints for each version from 1.78 on, and what is not recommended from 1.85 on. It declares both names for
+# It sets the hints for each version from 1.78 on, and do_not_recommend from 1.85 on. It declares both names for
 # each version from 1.80 on, and if it cannot read the version.
 sets_hints_by_the_version() {
     local folder=$PWD/target/build_script first=cargo:rerun-if-changed=build.rs minor rest said wanted

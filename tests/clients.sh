@@ -1,7 +1,7 @@
 #!/usr/bin/env bash
-# Runs the tests of crates that draw random numbers by a crate of others, unedited, over this library: tempfile and
-# async-executor use fastrand, and im-rc uses rand_xoshiro. The packages of tests/clients have these two names, and of
-# their calls only those that the three clients make. The clients, and what their tests need, are Debian's packages.
+# Runs the unedited tests of three other crates over this library: tempfile and async-executor, which use fastrand, and
+# im-rc, which uses rand_xoshiro. The packages of tests/clients have the names of these two, and only the calls that the
+# three clients make. The clients, and what their tests need, are Debian's packages.
 # Flume, a client of nanorand 0.7, is tested by tests/drop_in.sh.
 # shellcheck source=tests/lib.sh
 source "$(dirname "${BASH_SOURCE[0]}")/lib.sh"

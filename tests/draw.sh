@@ -5,8 +5,8 @@
 #     tests/draw.sh cargo    tests only cargo's build
 #     tests/draw.sh kit      tests only the kit's builds
 #
-# It runs the program to each exit status that it has, and compares standard output, standard error and the status. The
-# last line is N passed, M failed.
+# It makes the program end with each of its exit statuses, and compares standard output, standard error and the status.
+# The last line is N passed, M failed.
 # shellcheck source=tests/lib.sh
 source "$(dirname "${BASH_SOURCE[0]}")/lib.sh"
 # shellcheck source=tests/program.sh

@@ -5,9 +5,9 @@
 #     tests/lots.sh cargo    tests only cargo's build
 #     tests/lots.sh kit      tests only the kit's builds
 #
-# It runs the program to each exit status but 8, and compares standard output, standard error and the status. Then
-# tests/second_opinion.py compares all builds with the Python code of docs/LOTS.md, and tests/compare_records.py their
-# records with those of tests/records.py. The last line is N passed, M failed.
+# It makes the program end with each of its exit statuses but 8, and compares standard output, standard error and the
+# status. Then tests/second_opinion.py compares all builds with the Python code of docs/LOTS.md, and
+# tests/compare_records.py compares their records with those of tests/records.py. The last line is N passed, M failed.
 #
 # Status 8 is not tested here. It means that 128 random 64-bit words in a row were rejected, and no seed with such words
 # is known.

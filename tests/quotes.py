@@ -9,9 +9,9 @@ A quoted block follows a line that names its file, relative to the document's fo
     ```
 
 An item is the name of a function, type or constant, quoted with its comment and without attributes. `imports` stands
-for the lines that import. `the whole file` stands for a whole file of Rattle or Rust, of definitions, in a block of
-`antt`, or of C, C++, Python or CMake, in a block of `c`, `cpp`, `python` or `cmake`. In C++ an item is the name of a
-struct.
+for the lines that import. `the whole file` stands for a whole file. The block is `rust` for a file of Rattle or Rust,
+`antt` for one of definitions or proofs, and `c`, `cpp`, `python` or `cmake` for one of C, C++, Python or CMake. In C++
+an item is the name of a struct.
 
 In a table whose first column links a file of `specs/`, the second column names definitions. Each has to be declared in
 that file. In docs/PROMISES.md, each clause (`function: clause, clause`) and mutant has to exist, and each promise has

@@ -2,9 +2,9 @@
 # Compiles rust/nanorand-proved for other targets: tests/targets.sh. The last line is N passed, M failed.
 #
 # For each target whose std the oldest supported compiler has, it compiles the library with and without its feature std,
-# and runs the library's tests/targets/program.rs if a linker and what runs it are there; under qemu also the unit tests
-# of the two files with unsafe code, which compare NEON with scalar code. NANORAND_OLDEST names the folder that has
-# bin/rustc (/usr by default), and NANORAND_STD a folder with the std of further targets.
+# and runs the library's tests/targets/program.rs if there are a linker and a command that runs it. Under qemu it also
+# runs the unit tests of the two files with unsafe code, which compare NEON with scalar code. NANORAND_OLDEST names the
+# folder that has bin/rustc (/usr by default), and NANORAND_STD a folder with the std of further targets.
 # shellcheck source=tests/lib.sh
 source "$(dirname "${BASH_SOURCE[0]}")/lib.sh"
 oldest=${NANORAND_OLDEST:-/usr}

@@ -1,5 +1,5 @@
 #!/usr/bin/env python3
-"""Writes into documents and settings what follows from other files.
+"""Writes values into documents and settings that are computed from other files.
 
     tools/record.py            writes it
     tools/record.py --check    checks that the files have it: N passed, M failed

@@ -168,7 +168,7 @@ class _Saved(NamedTuple):
 
 
 def _hashed(seed: Union[SupportsIndex, float, str, bytes, bytearray]) -> bytes:
-    """Return the bytes whose SHA-256 the seed is mixed to. No str has the byte 0xFF in UTF-8."""
+    """Return the bytes that are hashed for a seed. No str has the byte 0xFF in UTF-8."""
     if isinstance(seed, str):
         return seed.encode()
     if isinstance(seed, (bytes, bytearray)):

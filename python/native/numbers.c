@@ -333,7 +333,7 @@ PyDoc_STRVAR(randint_doc,
 "Parameters\n"
 "----------\n"
 "a, b : int\n"
-"    Bounds, as of `range`.\n"
+"    Bounds, as for `range`.\n"
 "\n"
 "Raises\n"
 "------\n"

@@ -24,8 +24,8 @@
 //! - otherwise that of the error, as above
 //!
 //! `lots --version` and `lots --help` print a text. A seed and a count are always a draw, even if
-//! the seed is one of these options. So to check a record in a file named `all` or by digits, write
-//! `lots --check ./all`.
+//! the seed is one of these options. So to check a record in a file whose name is `all` or a number,
+//! write `lots --check ./all`.
 #![forbid(unsafe_code)]
 
 use lots::arguments::Request;

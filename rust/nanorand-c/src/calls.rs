@@ -42,8 +42,8 @@ pub fn fill_bytes<S: State<N>, const N: usize>(state: &mut S, buffer: &mut [u8])
 
 /// Returns a number in [0, 1): the top 53 bits of the next 64-bit word, times 2^-53.
 ///
-/// `f64::random` of `nanorand_proved` returns the same number, but adds and subtracts, against a
-/// vectorization that no single call has.
+/// `f64::random` of `nanorand_proved` returns the same number, but converts it as a signed number,
+/// so that LLVM does not vectorize loops of draws. A single call has no loop.
 #[allow(clippy::cast_precision_loss)] // 53 bits, as many as an `f64` has
 pub fn f64<S: State<N>, const N: usize>(state: &mut S) -> f64 {
     (u64(state) >> 11) as f64 / 9_007_199_254_740_992.0
@@ -126,8 +126,9 @@ where
     }
 }
 
-/// Draws nothing, out of the way of the calls that draw a number. The state is stored, as by every
-/// call: that of a stream may have too high a count of buffered bytes.
+/// Draws nothing. It is cold, so that its code is apart from that of the calls that draw a number.
+/// Like every call, it stores the state: that of a stream may have too high a count of buffered
+/// bytes, which is clamped.
 #[cold]
 fn empty<S: State<N>, const N: usize>(state: &mut S) -> u32 {
     state.call(|_| EMPTY)

@@ -70,7 +70,7 @@ pub use wyrand::WyRand;
 /// - `fn f(rng: &mut dyn AnyRng)`: a trait object, which has all calls of this trait. There is no
 ///   `dyn Rng`, since these methods are generic. See [`AnyRng`](crate::AnyRng).
 /// - `struct Game<R> {..}` and `impl<R: AnyRng> Game<R>`: generic without a block size. The calls
-///   are those of `self.rng.rng()`, which are compiled for the generator.
+///   are those of `self.rng.rng()`; an optimized build compiles them for the generator.
 /// - `fn f<R: Rng<OUTPUT>, const OUTPUT: usize>(rng: &mut R)`: generic with the block size. A
 ///   struct then needs it as a parameter too: `struct Game<R, const OUTPUT: usize>`.
 ///

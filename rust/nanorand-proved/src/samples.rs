@@ -64,10 +64,10 @@ pub fn sample<G: Rng<OUTPUT>, const OUTPUT: usize>(
 ///
 /// The length and the items of the table change only the time: the numbers, the state and the
 /// errors are those of `sample`. The table links the slots whose numbers agree in their low bits
-/// into a chain, so that a new number is compared with the slots of one chain only. On average
-/// these are at most one slot with a table of 3k items, and at most two with a table of 2k items.
-/// With k items or fewer there are no chains, and the time is O(k^2). The contents of the table are
-/// unspecified afterwards.
+/// into a chain, so that a new number is compared with the slots of one chain only. On average a
+/// chain has at most one slot if the table has 3k items, and at most two if it has 2k. With k items
+/// or fewer there are no chains, and the time is O(k^2). The contents of the table are unspecified
+/// afterwards.
 ///
 /// # Errors
 ///
@@ -106,9 +106,9 @@ pub fn sample_with<G: Rng<OUTPUT>, const OUTPUT: usize>(
 
 /// Continues a sample: keeps the first `filled` slots, and fills the others.
 ///
-/// Use it to draw a long sample in pieces. First pass only the first k slots of the slice: in a
-/// sample of `places.len()` numbers below `count`, they are a sample of the numbers below
-/// `count - (places.len() - k)`, so pass this number as `count`. If `filled` is 0, this is
+/// Use it to draw a long sample in pieces. First pass only the first k slots of the slice, and
+/// `count - (places.len() - k)` as `count`: in a sample of `places.len()` numbers below `count`,
+/// the first k slots are a sample of the numbers below that number. If `filled` is 0, this is
 /// `sample_with`, which describes the table. The slots that are kept are linked into the table
 /// again, which takes O(k). If you keep numbers that agree in their low bits, unlike those of a
 /// sample, they are in one chain, and the time is up to O(k^2).

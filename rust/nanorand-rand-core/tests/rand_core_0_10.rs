@@ -1,5 +1,5 @@
 //! The README's recipe for `rand_core` 0.10, over the traits of that version. They are restated here from its
-//! documentation, as the crate itself cannot be had where these tests run: signatures, supertraits and blanket
+//! documentation, as the crate itself is not available where these tests run: signatures, supertraits and blanket
 //! implementations are meant to be the same, and so is what the provided functions return.
 
 // The recipe imports its traits from `rand_core`. In this program that is the program itself, and not version 0.6.

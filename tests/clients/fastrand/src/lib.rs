@@ -9,7 +9,7 @@ use std::ops::RangeBounds;
 
 thread_local!(static OWN: RefCell<WyRand> = RefCell::default());
 
-/// Draws a letter from `A` to `Z` or `a` to `z`, or a digit. `tempfile` makes the names of files of them.
+/// Draws a letter from `A` to `Z` or `a` to `z`, or a digit. `tempfile` makes file names from them.
 #[must_use]
 pub fn alphanumeric() -> char {
     OWN.with(|rng| rng.borrow_mut().alphanumeric())

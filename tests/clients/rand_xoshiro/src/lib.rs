@@ -6,6 +6,6 @@
 use nanorand_proved::WyRand;
 use nanorand_proved_rand_core::Core;
 
-/// A `WyRand` in place of the generator of this name, so its numbers are others. `im-rc` seeds it by `seed_from_u64`,
+/// A `WyRand` in place of the generator of this name, so its numbers differ. `im-rc` seeds it by `seed_from_u64`,
 /// and draws from it the pivots of its quicksort.
 pub type Xoshiro256Plus = Core<WyRand, 8>;
