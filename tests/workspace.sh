@@ -229,6 +229,7 @@ cargo_tests cargo test --offline --workspace --doc
 # A million states for each vector body that this machine has.
 cargo_tests env NANORAND_STATES=1000000 cargo test --offline --release -p nanorand-proved -p nanorand-answers
 cargo_tests cargo test --offline --no-default-features --doc -p nanorand-proved
+step cargo check --offline --no-default-features --all-targets -p nanorand-proved
 cargo_tests cargo test --offline --no-default-features -p lots
 step library_without_std
 step lots_without_std

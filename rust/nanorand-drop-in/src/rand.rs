@@ -88,8 +88,9 @@ pub trait Rng<const OUTPUT: usize>: Clone {
     #[inline]
     #[track_caller]
     fn shuffle<T, Items: AsMut<[T]>>(&mut self, mut target: Items) {
-        let shuffled = shuffle_full(&mut Lent(self), target.as_mut());
-        shuffled.unwrap_or_else(|error| refused(error));
+        if let Err(error) = shuffle_full(&mut Lent(self), target.as_mut()) {
+            refused(error);
+        }
     }
 }
 

@@ -3,9 +3,10 @@
 
 use nanorand::crypto::chacha::chacha_block;
 use nanorand::{ChaCha, Rng, WyRand};
+use std::cell::RefCell;
 use std::io::Read;
 use std::ops::{Bound, RangeBounds};
-use std::panic::{catch_unwind, UnwindSafe};
+use std::panic::{catch_unwind, set_hook, UnwindSafe};
 
 fn text<T>(call: impl FnOnce() -> T + UnwindSafe) -> String {
     let panic = catch_unwind(call).err().expect("a panic");
@@ -60,6 +61,26 @@ fn words_that_are_rejected() {
     let shown = "(Excluded(9), Excluded(13))";
     check((Bound::Excluded(9), Bound::Excluded(13)), shown);
     assert_eq!(text(|| Stuck.shuffle([1, 2, 3])), rejected);
+}
+
+/// Ranges and shuffles panic at the place of the call.
+#[test]
+#[allow(clippy::reversed_empty_ranges)]
+fn places_are_those_of_the_callers() {
+    thread_local!(static PLACE: RefCell<String> = const { RefCell::new(String::new()) });
+    set_hook(Box::new(|panic| {
+        let file = panic.location().map_or("", |place| place.file());
+        PLACE.with(|place| place.replace(file.to_string()));
+    }));
+    let place = |call: fn()| {
+        assert!(catch_unwind(call).is_err());
+        PLACE.with(RefCell::take)
+    };
+    let range = || {
+        let _ = Stuck.generate_range(5..5_u8);
+    };
+    assert_eq!(place(range), file!());
+    assert_eq!(place(|| Stuck.shuffle([1, 2, 3])), file!());
 }
 
 #[test]

@@ -18,6 +18,17 @@ use std::vec::Vec;
 /// block. The bytes of the last block that are not delivered, always fewer than a block, stay
 /// buffered for the next request. The inner generator may be any generator, including another
 /// `BufferedRng`.
+///
+/// # Examples
+///
+/// ```
+/// use nanorand_proved::{BufferedRng, Rng, WyRand};
+///
+/// let mut rng = BufferedRng::new(WyRand::seed_from_u64(42));
+/// let halves: [u32; 2] = rng.generate(); // one block of eight bytes
+/// let [low, high] = halves.map(u64::from);
+/// assert_eq!(low + (high << 32), WyRand::seed_from_u64(42).generate());
+/// ```
 pub struct BufferedRng<G: Rng<OUTPUT>, const OUTPUT: usize = 8> {
     inner: G,
     block: [u8; OUTPUT],
@@ -209,6 +220,7 @@ where
 
 /// Wraps the default of the inner generator, by `BufferedRng::new`.
 impl<G: Rng<OUTPUT> + Default, const OUTPUT: usize> Default for BufferedRng<G, OUTPUT> {
+    #[track_caller]
     fn default() -> Self {
         BufferedRng::new(G::default())
     }

@@ -93,6 +93,11 @@ pub use wyrand::WyRand;
 /// - E0499, "cannot borrow `*self` as mutable more than once", where `self.rng.rng()` is kept: make
 ///   the helper a function that takes `rng: &mut dyn AnyRng`.
 /// - E0308, "expected `&mut dyn AnyRng`, found `RefMut`": pass `&mut *cell.borrow_mut()`.
+/// - E0277, "`dyn AnyRng` is not a generator with blocks of _ bytes", at a function such as
+///   [`samples::reservoir`]: pass `&mut rng.rng()` in place of `rng`.
+/// - E0659, "`rand` is ambiguous": `use nanorand_proved::*` imports the module
+///   [`rand`](crate::rand) too, which hides the crate `rand`. Import names instead, or write
+///   `use ::rand::..`.
 /// - E0308, "expected `&[str]`, found `&[&str]`", at `choose`: write `*rng.choose_or_panic(names)`,
 ///   or give the type, `rng.choose_or_panic::<&str>(names)`.
 #[cfg_attr(
@@ -114,6 +119,16 @@ pub trait Rng<const OUTPUT: usize = 8>: Sized {
 
     /// Draws a value of the type `T`. [`RandomGen`] lists the types, and what each takes from the
     /// stream.
+    ///
+    /// ```
+    /// use nanorand_proved::{Rng, WyRand};
+    ///
+    /// let mut rng = WyRand::seed_from_u64(42);
+    /// let (byte, coin): (u8, bool) = rng.generate();
+    /// let part = rng.generate::<f64>(); // from 0 to below 1
+    /// assert_eq!((byte, coin), (218, true));
+    /// assert!((0.0..1.0).contains(&part));
+    /// ```
     #[inline(always)]
     #[doc(alias = "gen", alias = "random")]
     fn generate<T: RandomGen<Self, OUTPUT>>(&mut self) -> T {
@@ -134,6 +149,14 @@ pub trait Rng<const OUTPUT: usize = 8>: Sized {
 
     /// Draws a number from a range such as `1..=6` or `..10`, or a value of a type of your own
     /// within two bounds.
+    ///
+    /// ```
+    /// use nanorand_proved::{RangeError, Rng, WyRand};
+    ///
+    /// let mut rng = WyRand::seed_from_u64(42);
+    /// assert_eq!(rng.generate_range::<u64>(1..=6), Ok(3));
+    /// assert_eq!(rng.generate_range(5..5_u8), Err(RangeError::Empty));
+    /// ```
     ///
     /// Each number of an integer range is produced by the same number of words, by the method of
     /// Daniel Lemire ("Fast Random Integer Generation in an Interval", 2019). [`RandomRange`]
@@ -164,6 +187,15 @@ pub trait Rng<const OUTPUT: usize = 8>: Sized {
     /// Random permutation", 1964), running from the first index up. The result is a permutation of
     /// the items. Each permutation of the indices is produced by exactly one sequence of drawn
     /// indices. The time is O(n) for n items.
+    ///
+    /// ```
+    /// use nanorand_proved::{RangeError, Rng, WyRand};
+    ///
+    /// let mut items = [1, 2, 3, 4, 5];
+    /// WyRand::seed_from_u64(42).shuffle(&mut items)?;
+    /// assert_eq!(items, [2, 5, 4, 3, 1]);
+    /// # Ok::<(), RangeError>(())
+    /// ```
     ///
     /// # Errors
     ///
@@ -196,7 +228,18 @@ pub trait Rng<const OUTPUT: usize = 8>: Sized {
     }
 
     /// Shuffles the beginning of the slice, as [`partial_shuffle`](shuffles::partial_shuffle) does.
-    /// The first `count` items are then a random selection from all items, in random order.
+    /// The first `count` items are then a random selection from all items, in random order. Unlike
+    /// in `rand`, the call does not return the two parts of the slice.
+    ///
+    /// ```
+    /// use nanorand_proved::{RangeError, Rng, WyRand};
+    ///
+    /// let mut deck: Vec<u8> = (0..52).collect();
+    /// WyRand::seed_from_u64(42).partial_shuffle(&mut deck, 5)?;
+    /// let (hand, rest) = deck.split_at(5);
+    /// assert_eq!((hand, rest.len()), (&[17, 42, 34, 5, 2][..], 47));
+    /// # Ok::<(), RangeError>(())
+    /// ```
     ///
     /// # Errors
     ///
@@ -246,6 +289,16 @@ pub trait Rng<const OUTPUT: usize = 8>: Sized {
     /// Chooses an item by weight, and returns its index: `weights[i]` is the weight of item i. Each
     /// call takes time O(n) for n weights, since it adds them up.
     ///
+    /// ```
+    /// use nanorand_proved::choices::WeightError;
+    /// use nanorand_proved::{Rng, WyRand};
+    ///
+    /// let mut rng = WyRand::seed_from_u64(42);
+    /// let index = rng.choose_weighted(&[5, 0, 1])?; // 0 five times in six, otherwise 2
+    /// assert_ne!(index, 1);
+    /// # Ok::<(), WeightError>(())
+    /// ```
+    ///
     /// # Errors
     ///
     /// Returns `NoWeight` if there are no weights or all of them are 0, `TooHeavy` if their sum is
@@ -278,6 +331,15 @@ pub trait Rng<const OUTPUT: usize = 8>: Sized {
     /// [`permute`](Self::permute) them if it matters. The expected time is O(k) for k slots;
     /// without the feature `std`, or without memory for a table, it is O(k^2). If there are no
     /// slots, nothing is drawn.
+    ///
+    /// ```
+    /// use nanorand_proved::{RangeError, Rng, WyRand};
+    ///
+    /// let mut places = [0; 3];
+    /// WyRand::seed_from_u64(42).sample(10, &mut places)?;
+    /// assert_eq!(places, [2, 7, 6]); // three different numbers below 10
+    /// # Ok::<(), RangeError>(())
+    /// ```
     ///
     /// # Errors
     ///

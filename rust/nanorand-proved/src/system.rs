@@ -45,7 +45,6 @@ fn fill_by(
 /// `getrandom`, which returns the number of bytes written, or -1 and sets `errno`.
 #[cfg(any(
     all(target_os = "linux", not(target_env = "gnu")),
-    target_os = "android",
     target_os = "dragonfly",
 ))]
 mod call {
@@ -71,13 +70,20 @@ mod call {
 
 /// `getrandom` of glibc, which returns the number of bytes written, or -1 and sets `errno`. glibc
 /// has it from 2.25 on, and Rust supports glibc from 2.17 on. So it is looked up at run time, as
-/// std does, and if it is missing, the system call is made by its number.
-#[cfg(all(target_os = "linux", target_env = "gnu"))]
+/// std does, and if it is missing, the system call is made by its number. Android's C library has
+/// it from API level 28 on, and Rust supports Android from API level 21 on. There the system call
+/// is always made by its number.
+#[cfg(any(all(target_os = "linux", target_env = "gnu"), target_os = "android"))]
 mod call {
     use std::io;
+    #[cfg(not(target_os = "android"))]
     use std::mem::transmute;
-    use std::os::raw::{c_char, c_long, c_uint, c_void};
+    #[cfg(not(target_os = "android"))]
+    use std::os::raw::c_char;
+    use std::os::raw::{c_long, c_uint, c_void};
+    #[cfg(not(target_os = "android"))]
     use std::ptr::null_mut;
+    #[cfg(not(target_os = "android"))]
     use std::sync::atomic::{AtomicPtr, Ordering};
 
     pub(super) const MOST: usize = usize::MAX;
@@ -85,6 +91,7 @@ mod call {
     pub(super) type GetRandom = unsafe extern "C" fn(*mut c_void, usize, c_uint) -> isize;
 
     extern "C" {
+        #[cfg(not(target_os = "android"))]
         fn dlsym(library: *mut c_void, name: *const c_char) -> *mut c_void;
         fn syscall(number: c_long, ...) -> c_long;
     }
@@ -134,7 +141,15 @@ mod call {
         usize::try_from(count).map_err(|_| io::Error::last_os_error())
     }
 
+    // Android's C library is not asked, since its handle for all libraries has another value on
+    // 32-bit processors.
+    #[cfg(target_os = "android")]
+    pub(super) fn get_random() -> Option<GetRandom> {
+        None
+    }
+
     // Returns the `getrandom` of the C library, or `None` if it has none. It is looked up once.
+    #[cfg(not(target_os = "android"))]
     pub(super) fn get_random() -> Option<GetRandom> {
         const NOT_LOOKED_UP: *mut c_void = usize::MAX as *mut c_void;
         static ADDRESS: AtomicPtr<c_void> = AtomicPtr::new(NOT_LOOKED_UP);

@@ -9,6 +9,7 @@ use nanorand_proved::{BufferedRng, ChaCha20, ChaCha20Stream, ChaCha8, Pcg64, WyR
 use std::cell::{Cell, RefCell};
 use std::collections::VecDeque;
 use std::os::raw::{c_int, c_uint, c_void};
+use std::panic::{catch_unwind, set_hook, UnwindSafe};
 
 const EINTR: c_int = 4;
 
@@ -133,6 +134,27 @@ fn seeds_are_the_bytes_of_the_system() {
         made(&mut || assert_eq!(ChaCha20Stream::default(), stream));
         made(&mut || assert_eq!(BufferedRng::<WyRand, 8>::default().inner(), &wyrand));
     }
+}
+
+/// If there is no seed, `Default` panics at the place of the call.
+#[test]
+#[allow(clippy::redundant_closure)] // a function in place of a closure is called by std
+fn defaults_panic_at_their_callers() {
+    thread_local!(static PLACE: RefCell<String> = const { RefCell::new(String::new()) });
+    fn check<T>(call: impl FnOnce() -> T + UnwindSafe) {
+        let (outcome, _) = answered(&[Err(5)], || catch_unwind(call));
+        assert!(outcome.is_err());
+        PLACE.with(|place| assert_eq!(place.take(), file!()));
+    }
+    set_hook(Box::new(|panic| {
+        let file = panic.location().map_or("", |place| place.file());
+        PLACE.with(|place| place.replace(file.to_string()));
+    }));
+    check(|| WyRand::default());
+    check(|| Pcg64::default());
+    check(|| ChaCha20::default());
+    check(|| ChaChaGroups::<20>::default());
+    check(|| ChaCha20Stream::default());
 }
 
 /// A slice of any size is filled completely, by one request if the system answers it completely.

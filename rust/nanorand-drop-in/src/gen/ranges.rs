@@ -19,7 +19,10 @@ macro_rules! proved_ranges {
                 let low = range.start_bound().cloned();
                 let high = range.end_bound().cloned();
                 let drawn = proved::RandomRange::<_, OUTPUT>::random_range(&mut Lent(rng), low, high);
-                drawn.unwrap_or_else(|error| refused(&Bounded(low, high), error))
+                match drawn {
+                    Ok(number) => number,
+                    Err(error) => refused(&Bounded(low, high), error),
+                }
             }
         }
     )+ };

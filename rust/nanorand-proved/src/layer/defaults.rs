@@ -39,9 +39,13 @@ impl<const ROUNDS: u8> Default for ChaChaGroups<ROUNDS> {
     }
 }
 
+// A closure would panic at a place of its own, and not at that of the caller.
 #[track_caller]
 fn seeded<G>(generator: io::Result<G>) -> G {
-    generator.unwrap_or_else(|error| panic!("no seed: {error}"))
+    match generator {
+        Ok(generator) => generator,
+        Err(error) => panic!("no seed: {error}"),
+    }
 }
 
 #[cfg(test)]

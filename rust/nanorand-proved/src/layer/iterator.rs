@@ -7,6 +7,7 @@ use core::marker::PhantomData;
 
 /// An endless iterator of the values that a generator draws. [`Rng::generate_iter`] creates it.
 #[derive(Debug)]
+#[must_use = "an iterator draws only the values that are asked for"]
 pub struct GenerateIter<'a, T, G, const OUTPUT: usize> {
     rng: &'a mut G,
     values: PhantomData<fn() -> T>,

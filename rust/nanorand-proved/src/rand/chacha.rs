@@ -48,6 +48,16 @@ pub type ChaCha20 = ChaCha<20>;
 /// twice.
 ///
 /// An odd `ROUNDS` does not compile.
+///
+/// # Examples
+///
+/// ```
+/// use nanorand_proved::{ChaCha20, Rng};
+///
+/// let mut rng = ChaCha20::new_key([0; 32], [0; 8]);
+/// assert_eq!(rng.rand()[..4], [0x76, 0xb8, 0xe0, 0xad]); // the first of 64 bytes
+/// assert_eq!(rng.counter(), 1);
+/// ```
 pub struct ChaCha<const ROUNDS: u8> {
     state: [u32; 16],
 }

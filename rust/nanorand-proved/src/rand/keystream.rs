@@ -13,6 +13,18 @@ use crate::rand::Rng;
 /// Like `ChaCha`, it is not a vetted cryptographic generator: it does not erase keys from memory,
 /// does not reseed itself, and has not been audited. For keys, tokens and passwords, or if there is
 /// an adversary, use a vetted generator.
+///
+/// # Examples
+///
+/// ```
+/// use nanorand_proved::{ChaCha20Stream, Rng};
+///
+/// let mut rng = ChaCha20Stream::new_key([1; 32], [2; 8]); // or seed_from_u64, from_entropy
+/// let number: u64 = rng.generate();
+/// assert_eq!(rng.position(), 8);
+/// rng.seek(0);
+/// assert_eq!(rng.generate::<u64>(), number);
+/// ```
 pub type ChaChaStream<const ROUNDS: u8> = BufferedRng<ChaChaGroups<ROUNDS>, 512>;
 
 /// A stream of ChaCha with 8 rounds, fewer than the standard's 20. Not a vetted cryptographic

@@ -39,6 +39,18 @@ const TERM: u128 = u128::wrapping_add(u128::wrapping_add(SQUARE, MULTIPLIER), 1)
 /// the old seed plus 1, modulo 2^128. No draw reads them. As in the Rust crate, each draw starts
 /// over from the seed and rotates nothing, so the streams differ from those of other PCG
 /// implementations.
+///
+/// # Examples
+///
+/// ```
+/// use nanorand_proved::{Pcg64, Rng};
+///
+/// let mut rng = Pcg64::seed_from_u64(42);
+/// let mut ahead = rng.clone();
+/// assert_eq!(rng.range::<u64>(1..=6), 3);
+/// ahead.jump(1);
+/// assert_eq!(ahead, rng);
+/// ```
 pub struct Pcg64 {
     seed: u128,
     state: u128,

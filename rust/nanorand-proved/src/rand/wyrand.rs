@@ -28,6 +28,19 @@ const MASK: u64 = 0xe703_7ed1_a0b4_28db;
 /// constant). The 64-bit word is the high half of this 128-bit product xor its low half. The block
 /// is the eight bytes of the word, in little-endian order. The generator does not buffer: each
 /// request starts with a new block.
+///
+/// # Examples
+///
+/// ```
+/// use nanorand_proved::{Rng, WyRand};
+///
+/// let mut rng = WyRand::seed_from_u64(42);
+/// assert_eq!(rng.range::<u64>(1..=6), 3);
+/// let number: u64 = rng.generate();
+/// let mut cards = ["ace", "king", "queen", "jack"];
+/// rng.permute(&mut cards);
+/// # let _ = number;
+/// ```
 #[repr(C)]
 pub struct WyRand {
     seed: u64,
