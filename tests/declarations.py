@@ -4,8 +4,9 @@
 No compiler sees a declaration together with the function, and the linker compares only names. The script also compares
 the exports of the library that cargo builds, the attributes for null pointers and statuses in the header, the results
 in the header of C++ that have to be read, the structs that the exports take or return, the version and the repository's
-address that each part names, the headings of the changelogs, and the C functions and statuses that documents name.
-The last line is N passed, M failed.
+address that each part names, the headings of the changelogs, and the C functions and statuses that documents name. It
+finds a generator of the Rust crate that lacks what the files of layer/ have for all of them. The last line is N passed,
+M failed.
 """
 
 import re
@@ -51,7 +52,19 @@ VERSIONS = {
     "CHANGELOG.md": r"(?s)\A.*?\n## \[([\d.]+)\] - ",
 }
 # Where the repository's address is written.
-ADDRESSES = {"Cargo.toml": r'^repository = "(.*)"$', "pyproject.toml": r'^Repository = "(.*)"$'}
+ADDRESSES = {
+    "Cargo.toml": r'^repository = "(.*)"$',
+    "rust/nanorand-rand-core/Cargo.toml": r'^repository = "(.*)"$',
+    "pyproject.toml": r'^Repository = "(.*)"$',
+}
+# What a file of layer/ has for each generator of the Rust crate. The seeds of `ChaChaGroups` are those of its stream.
+CRATE = "rust/nanorand-proved/src"
+LAYERS = {
+    "any": r"^    \[.*\] {0},$",
+    "defaults": r"^impl.* Default for {0} \{{$",
+    "hash": r"^impl.* Hash for {0} \{{$",
+    "seeds": r"^impl(?:<.*>)? {0} \{{$",
+}
 # The headings of a changelog, after Keep a Changelog 1.1.0.
 CHANGELOGS = "CHANGELOG.md", "rust/nanorand-proved/CHANGELOG.md"
 CHANGELOG_TITLE, CHANGELOG_FIRST = "# Changelog", "## [Unreleased]"
@@ -376,6 +389,19 @@ def size_problems(header):
     return [[] if wanted in read("c/README.md") else [f"c/README.md: it does not say {wanted}"]]
 
 
+def generator_problems():
+    """Each generator of the Rust crate has its lines in the files of layer/."""
+    sources = "".join(path.read_text(encoding="utf-8") for path in sorted((ROOT / CRATE / "rand").glob("*.rs")))
+    found = re.findall(r"^impl.* Rng<\d+> for (\w+(?:<ROUNDS>)?) \{", sources, re.M)
+    generators = [name for name in found if re.search(rf"^pub struct {name.partition('<')[0]}\b", sources, re.M)]
+    yield [] if len(generators) > 3 else [f"{CRATE}/rand: it has the generators {generators}"]
+    for layer, pattern in LAYERS.items():
+        for name in generators:
+            named = name.replace("Groups", "Stream") if layer == "seeds" else name
+            has = re.search(pattern.format(named), read(f"{CRATE}/layer/{layer}.rs"), re.M)
+            yield [] if has else [f"{CRATE}/layer/{layer}.rs: it has nothing for {named}"]
+
+
 def main():
     if sys.argv[1:]:
         sys.exit(__doc__)
@@ -398,6 +424,7 @@ def main():
     cases += changelog_problems()
     cases += name_problems(header)
     cases += size_problems(header)
+    cases += generator_problems()
     for text in (text for case in cases for text in case):
         print(text)
     failed = sum(map(bool, cases))
