@@ -30,6 +30,7 @@ keep() {
     for name in "${crates[@]}"; do
         mkdir -p "$1/$name"/out/{rlib,incremental,other}
         echo "$2" | tee "$1/$name"/out/{rlib,incremental,other}/proof >/dev/null
+        touch "$1/$name/out/rlib/stamp"
     done
 }
 
@@ -83,11 +84,16 @@ of_a_stand_in() {
 
     for name in "${crates[@]}"; do
         mkdir -p "$library/crates/$name/out/rlib"
+        touch "$library/crates/$name/out/rlib/stamp"
         expect "an update by a clone that proved $name alone" "$stay" "$(copy "$library" "$own/crates")"
         expect 'the proofs after it' older "$(cat "$own"/crates/*/out/rlib/proof | uniq)"
         rm -r "$library/crates/$name/out"
     done
 
+    for name in "${crates[@]}"; do
+        mkdir -p "$library/crates/$name/out/rlib"
+    done
+    expect 'an update by a clone whose proof was cut off' "$stay" "$(copy "$library" "$own/crates")"
     keep "$library/crates" newer
     expect 'an update with proofs' "$with" "$(copy "$library" "$own/crates")"
     for name in "${crates[@]}"; do
