@@ -332,7 +332,7 @@ two_releases() {
 all_exports_run() {
     local source command package target=$work/coverage
     read -r command package < <(tools/uncovered.py --tools)
-    if ! available "$command" "$package" || ! available cc gcc; then
+    if [ -z "$package" ] || ! available "$command" "$package" || ! available cc gcc; then
         skip 'whether the tests of C run all exports' "there is no $command or cc"
         return
     fi

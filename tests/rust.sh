@@ -125,7 +125,7 @@ available /usr/bin/rustc rustc
 available /usr/bin/cargo cargo
 other_targets
 read -r command package < <(tools/uncovered.py --tools)
-available "$command" "$package"
+[ -z "$package" ] || available "$command" "$package"
 copy_of_workspace "$work/copy"
 part env PATH="$(path_without_kit)" "$work/copy/tests/workspace.sh"
 part env PATH="$(path_without_kit)" "$work/copy/tests/build_script.sh"

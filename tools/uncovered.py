@@ -2,7 +2,7 @@
 """Lists the code that no test has run.
 
     tools/uncovered.py TARGET SOURCE..    lists the code in the SOURCE folders that no test has run: N passed, M failed
-    tools/uncovered.py --tools            prints the LLVM command and the Debian package that are needed
+    tools/uncovered.py --tools            prints what is needed: an LLVM command and its Debian package
 
 For example, tools/uncovered.py target/coverage rust/lots/src. TARGET is a target folder of cargo in which tests ran
 with RUSTFLAGS=-Cinstrument-coverage, and its folder `profiles` has their profiles. A region is the smallest piece of
@@ -10,7 +10,8 @@ code that the compiler counts: a condition, an arm, an operand of `&&`. Each reg
 unless uncovered.txt names its line. A line that uncovered.txt names but tests run is a failure as well.
 
 The script uses llvm-profdata and llvm-cov of the compiler's own LLVM version, from Debian's package, whose commands end
-in the version, or from rustup's component llvm-tools. --tools fails if they are not there.
+in the version, or from rustup's component llvm-tools. --tools fails if they are not there. It also fails, and names
+profiler_builtins, if rustc was built without the runtime that counts, as Debian's rustc 1.63 was.
 """
 
 import json
@@ -31,16 +32,30 @@ def printed(*command):
     return subprocess.run(command, stdout=subprocess.PIPE, encoding="utf-8", check=True).stdout
 
 
-def tools():
-    """The names of both commands, or None, and the version of LLVM."""
+def compiler():
+    """The version of LLVM of rustc, and the folder of its libraries and tools."""
     said = printed("rustc", "--version", "--verbose")
     version, host = (re.search(rf"^{word}: ([\w-]+)", said, re.M)[1] for word in ("LLVM version", "host"))
-    of_rustup = Path(printed("rustc", "--print", "sysroot").strip()) / "lib/rustlib" / host / "bin"
+    return version, Path(printed("rustc", "--print", "sysroot").strip()) / "lib/rustlib" / host
+
+
+def tools():
+    """The names of both commands, or None."""
+    version, folder = compiler()
+    of_rustup = folder / "bin"
     for names in ([f"{name}-{version}" for name in ("llvm-profdata", "llvm-cov")],
                   [str(of_rustup / name) for name in ("llvm-profdata", "llvm-cov")]):
         if all(map(shutil.which, names)):
-            return names, version
-    return None, version
+            return names
+    return None
+
+
+def needed():
+    """What has to be there, and whether it is."""
+    version, folder = compiler()
+    if not any(folder.glob("lib/libprofiler_builtins-*.rlib")):
+        return "profiler_builtins", False
+    return f"llvm-cov-{version} llvm-{version}", tools() is not None
 
 
 def programs_of(target):
@@ -52,7 +67,7 @@ def programs_of(target):
 
 def regions_of(target, sources):
     """How often tests ran each region of these folders. A region is a file, a line, and its start and end there."""
-    (merge, show), _ = tools()
+    merge, show = tools()
     profile = target / "profiles/all"
     printed(merge, "merge", "-sparse", "-o", str(profile), *map(str, (target / "profiles").glob("*.profraw")))
     objects = [word for path in programs_of(target) for word in ("-object", str(path))]
@@ -83,9 +98,9 @@ def exceptions(sources):
 
 def main():
     if sys.argv[1:] == ["--tools"]:
-        found, version = tools()
-        print(f"llvm-cov-{version} llvm-{version}")
-        return 0 if found else 1
+        what, is_there = needed()
+        print(what)
+        return 0 if is_there else 1
     target, *sources = (Path(word).resolve() for word in sys.argv[1:])
     runs = regions_of(target, sources)
     left = {(file, code_at(file, line)): line for (file, line, *_), count in sorted(runs.items()) if count == 0}

@@ -64,9 +64,25 @@ class Regions(unittest.TestCase):
                       "regions": [[line, 1, line, 9, count, number, 0, kind] for line, count, number, kind in instance]}
                      for instance in instances]
         said = json.dumps({"data": [{"functions": functions}]})
-        with mock.patch.multiple(uncovered, tools=lambda: (("merge", "show"), ""), printed=lambda *_: said):
+        with mock.patch.multiple(uncovered, tools=lambda: ("merge", "show"), printed=lambda *_: said):
             found = uncovered.regions_of(Path("/none"), [Path("/rust/one/src")])
         self.assertEqual(found, {(Path(here), 1, 1, 1, 9): 10, (Path(here), 2, 1, 2, 9): 0})
+
+
+class Needed(unittest.TestCase):
+    def test_what_is_needed(self):
+        """Rustc's own runtime, and then the tools of its LLVM."""
+        with tempfile.TemporaryDirectory() as name:
+            folder = Path(name)
+            (folder / "lib").mkdir()
+            with mock.patch.object(uncovered, "compiler", lambda: ("14", folder)), \
+                    mock.patch.object(uncovered.shutil, "which", lambda _: None):
+                self.assertEqual(uncovered.needed(), ("profiler_builtins", False))
+                (folder / "lib/libprofiler_builtins-1a.rlib").touch()
+                self.assertEqual(uncovered.needed(), ("llvm-cov-14 llvm-14", False))
+            with mock.patch.object(uncovered, "compiler", lambda: ("14", folder)), \
+                    mock.patch.object(uncovered.shutil, "which", str):
+                self.assertEqual(uncovered.needed(), ("llvm-cov-14 llvm-14", True))
 
 
 if __name__ == "__main__":
