@@ -507,29 +507,29 @@ fn after_calls<G: Rng<OUTPUT> + Drop, const OUTPUT: usize>(
     Ok(rng)
 }
 
-// Does the same with a buffer around the generator, in which this many bytes are left.
+// Does the same with a buffer, in which this many bytes are left. Returns the generator in it.
 fn after_buffered_calls<G: Rng<OUTPUT> + Drop, const OUTPUT: usize>(
     rt: &(impl Abort + AllocGlobal),
-    rng: G,
+    buffer: BufferedRng<G, OUTPUT>,
     buffered: usize,
     case: &Case,
     is_replayed: bool,
 ) -> Result<G, AllocError> {
-    let buffer = after_calls(rt, BufferedRng::new(rng), case, is_replayed)?;
+    let buffer = after_calls(rt, buffer, case, is_replayed)?;
     equal_at(rt, buffer.buffered(), buffered, case.name);
     Ok(buffer.into_inner())
 }
 
-// Does the same with the generator, or with a buffer around it, as the case says.
+// Does the same with a new buffer or with the generator in it, as the case says.
 fn leaves<G: Rng<OUTPUT> + Drop, const OUTPUT: usize>(
     rt: &(impl Abort + AllocGlobal),
-    rng: G,
+    buffer: BufferedRng<G, OUTPUT>,
     case: &Case,
     is_replayed: bool,
 ) -> Result<G, AllocError> {
     match case.buffered {
-        None => after_calls(rt, rng, case, is_replayed),
-        Some(buffered) => after_buffered_calls(rt, rng, buffered, case, is_replayed),
+        None => after_calls(rt, buffer.into_inner(), case, is_replayed),
+        Some(buffered) => after_buffered_calls(rt, buffer, buffered, case, is_replayed),
     }
 }
 
@@ -541,16 +541,16 @@ fn drawn(
 ) -> Result<u64, AllocError> {
     match case.source {
         Source::Steps => {
-            let steps = leaves(rt, Steps::new(), case, is_replayed)?;
+            let steps = leaves(rt, BufferedRng::new(Steps::new()), case, is_replayed)?;
             Ok(steps.drawn())
         }
         Source::Waste => {
-            let waste = leaves(rt, Waste::new(), case, is_replayed)?;
+            let waste = leaves(rt, BufferedRng::new(Waste::new()), case, is_replayed)?;
             Ok(waste.drawn())
         }
         Source::Words(zeros, words) => {
             let script = Script::from_block(words, 0u64.wrapping_sub(zeros));
-            let script = leaves(rt, script, case, is_replayed)?;
+            let script = leaves(rt, BufferedRng::new(script), case, is_replayed)?;
             Ok(script.drawn().wrapping_add(zeros))
         }
     }
