@@ -195,6 +195,7 @@ programs() {
 for command in cc:gcc pkg-config:pkg-config cargo:cargo; do
     available "${command%:*}" "${command#*:}" || skip_all 'the archive' "there is no ${command%:*}"
 done
+can_build python3 || skip_all 'the archive' 'python3 has no venv or no Python.h'
 if ! command -v rt >/dev/null; then
     skip_all 'the archive' 'there is no kit to build it'
 fi

@@ -171,6 +171,20 @@ packages() {
     return "$status"
 }
 
+# Whether the Python $1 has venv and its own headers, which Debian packages separately.
+can_build() {
+    has_what_builds "$1" && return
+    available '/usr/lib/python3.*/ensurepip' python3-venv
+    available '/usr/include/python3.*/Python.h' python3-dev
+    has_what_builds "$1"
+}
+
+has_what_builds() {
+    "$1" -c 'import ensurepip, os, sysconfig, venv
+paths = sysconfig.get_paths()
+assert any(os.path.isfile(paths[name] + "/Python.h") for name in ("include", "platinclude"))' 2>/dev/null
+}
+
 apt_get() {
     DEBIAN_FRONTEND=noninteractive flock "${TMPDIR:-/tmp}/nanorand-tests-install" apt-get --quiet "$@" \
         >/dev/null 2>&1 </dev/null

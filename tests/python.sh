@@ -241,8 +241,8 @@ by_source_distribution() {
 by_build() {
     local room=$work/build
     if ! available /usr/lib/python3/dist-packages/build python3-build ||
-        ! /usr/bin/python3 -c 'import ensurepip, venv' 2>/dev/null; then
-        skip 'python -m build' "it or its venv is not there"
+        ! can_build /usr/bin/python3; then
+        skip 'python -m build' "it, its venv or Python.h is not there"
         return
     fi
     step /usr/bin/python3 -m build --outdir "$room" .
@@ -309,7 +309,7 @@ without_rustc() {
 
 package='the tests of the Python package'
 command -v python3 >/dev/null || skip_all "$package" 'there is no python3'
-python3 -c 'import ensurepip, venv' 2>/dev/null || skip_all "$package" 'python3 has no venv'
+can_build python3 || skip_all "$package" 'python3 has no venv or no Python.h'
 available cc gcc || skip_all "$package" 'there is no C compiler'
 available nm binutils || skip_all "$package" 'there is no nm'
 
@@ -353,7 +353,7 @@ NANORAND_LIBRARY=$work/archive/lib/libnanorand.a
 export NANORAND_LIBRARY
 step refusing
 system=/usr/bin/python3
-if [ -x "$system" ] && "$system" -c 'import ensurepip, venv' 2>/dev/null; then
+if [ -x "$system" ] && can_build "$system"; then
     with_its_tests "$system"
     available '/usr/lib/python3/dist-packages/numpy' python3-numpy || true
     step "$system" python/build.py "$work/system/one"
@@ -362,7 +362,7 @@ if [ -x "$system" ] && "$system" -c 'import ensurepip, venv' 2>/dev/null; then
     numpys_own "$work/system/env"
     counted
 else
-    skip "the package by the system's Python" "it has no venv"
+    skip "the package by the system's Python" "it has no venv or no Python.h"
 fi
 by_newer_pythons
 refused_statuses
