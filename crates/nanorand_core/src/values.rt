@@ -1,7 +1,7 @@
 //! The values that a generator draws.
 ghost use Rattle.std.specs.Prelude.{◌≡◌, ℕ, ◌*◌, ◌≤◌, All, Bool, length, true};
 ghost use Rattle.std.specs.Fn.{CalledAtMut, iterate};
-ghost use Rattle.nanorand_core.specs.values.Fills.{CallsReturn, EachCallDraws, EachCallLeaves, EachCallPasses, EachCallTakes};
+ghost use Rattle.nanorand_core.specs.values.Fills.{CallsReturn, EachCallDraws, EachCallLeaves, EachCallPasses, EachCallTakes, OwnCallsDraw, OwnCallsLeave, OwnCallsPass, OwnCallsTake};
 ghost use Rattle.nanorand_core.specs.values.Values.{truth_of, values_from};
 
 mod bytes;
@@ -64,6 +64,11 @@ impl<G: Rng<OUTPUT>, const OUTPUT: usize> RandomGen<G, OUTPUT> for bool {
 /// each call makes at most `most` steps, such as the 128 words of a range, then all calls together
 /// make at most `most` steps for each item. `all`: if the value of each call passes a test, then
 /// all items pass it.
+///
+/// The premises of these four clauses are about every closure of the type, whatever it captured. If
+/// the clauses of the closure name a variable that it captures, such as a bound of a range, use
+/// `own_values`, `own_state`, `own_words` and `own_all`. Their premises are about calls of `draw`
+/// alone, each of which has to leave `draw` as it was.
 pub fn fill_with<G, T: Drop, F: FnMut(&mut G) -> T>(rng: &mut G, target: &mut [T], mut draw: F)
     requires { F.IsAlwaysCallable draw }
     ensures ran { CallsReturn (CalledAtMut F.FnMut) draw rng.old target.new rng.new }
@@ -75,6 +80,16 @@ pub fn fill_with<G, T: Drop, F: FnMut(&mut G) -> T>(rng: &mut G, target: &mut [T
     ensures words { (step : G → G) (most : ℕ) → EachCallTakes (CalledAtMut F.FnMut) step most
         → (n : ℕ) × (n ≤ most * length target.old) × (rng.new ≡ iterate step n rng.old) }
     ensures all { (test : T → Bool) → EachCallPasses (CalledAtMut F.FnMut) test
+        → All (λ item. test item ≡ true) target.new }
+    ensures own_values { (value : G → T) (after : G → G)
+        → OwnCallsDraw (CalledAtMut F.FnMut) draw value after
+        → target.new ≡ values_from value after (length target.old) rng.old }
+    ensures own_state { (after : G → G) → OwnCallsLeave (CalledAtMut F.FnMut) draw after
+        → rng.new ≡ iterate after (length target.old) rng.old }
+    ensures own_words { (step : G → G) (most : ℕ)
+        → OwnCallsTake (CalledAtMut F.FnMut) draw step most
+        → (n : ℕ) × (n ≤ most * length target.old) × (rng.new ≡ iterate step n rng.old) }
+    ensures own_all { (test : T → Bool) → OwnCallsPass (CalledAtMut F.FnMut) draw test
         → All (λ item. test item ≡ true) target.new }
 {
     for item in target.iter_mut() {

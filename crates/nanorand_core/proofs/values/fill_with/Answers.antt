@@ -4,7 +4,7 @@ use Rattle.std.proofs.RetainMut.{Called-Mut}
 use Rattle.std.specs.Fn.{CalledAtMut, iterate}
 use Rattle.nanorand_core.specs.values.Fills.{CallsReturn}
 use Rattle.nanorand_core.specs.values.Values.{values_from}
-use Rattle.nanorand_core.proofs.lemmas.FillLemmas.{values_drawn, state_left, steps_taken, all_pass}
+use Rattle.nanorand_core.proofs.lemmas.FillLemmas.{values_drawn, state_left, steps_taken, all_pass, own_values, own_state, own_steps, own_pass}
 use Rattle.nanorand_core.proofs.values.fill_with.Goals as goal
 
 pub loop-item-preserved : goal.loop-item-preserved
@@ -36,4 +36,12 @@ returns g c =
           let taken = steps_taken Call step most each at.target c.args.draw c.args.rng.now at.rng ran in
           (taken.0, subst (λ count. taken.0 ≤ most * count) long taken.1, taken.2);
       all = λ test each. all_pass Call test each at.target c.args.draw c.args.rng.now at.rng ran;
+      own_values = λ value after each. own_values Call c.args.draw value after each at.target c.args.rng.now at.rng ran
+          ∙ ap (λ n. values_from value after n c.args.rng.now) long;
+      own_state = λ after each. own_state Call c.args.draw after each at.target c.args.rng.now at.rng ran
+          ∙ ap (λ n. iterate after n c.args.rng.now) long;
+      own_words = λ step most each.
+          let taken = own_steps Call c.args.draw step most each at.target c.args.rng.now at.rng ran in
+          (taken.0, subst (λ count. taken.0 ≤ most * count) long taken.1, taken.2);
+      own_all = λ test each. own_pass Call c.args.draw test each at.target c.args.rng.now at.rng ran;
     }
