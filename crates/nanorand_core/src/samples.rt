@@ -1,9 +1,9 @@
 //! Samples without replacement.
 ghost use Rattle.std.specs.Prelude.{◌≡◌, ◌≢◌, ℕ, ◌+◌, ◌-◌, ◌*◌, ◌^◌, ◌<◌, ◌≤◌, ◌++◌, List, drop, length, take};
-ghost use Rattle.std.specs.Prelude.{All, Contains, is_ok, min, slice_set, IfOk, IfErr, OnErr, OnOk};
+ghost use Rattle.std.specs.Prelude.{All, Bool, Contains, is_ok, min, slice_set, true, IfOk, IfErr, OnErr, OnOk};
 ghost use Rattle.std.specs.List.{AllPairs};
 ghost use Rattle.std.specs.Iterator.{IsFinite};
-ghost use Rattle.std.specs.Iterator.Runs.{CountFits, SomeRun, WholeRun};
+ghost use Rattle.std.specs.Iterator.Runs.{AllItems, CountFits, EachRunFrom, SomeRun, WholeRun};
 ghost use Rattle.nanorand_core.specs.samples.Samples.{DifferentBelow, extended, holds, joining, number_up_to, sampled};
 ghost use Rattle.nanorand_core.specs.samples.Reservoir.{items_at, reservoir};
 ghost use Rattle.nanorand_core.specs.support.Chains.{Chained, chain_of};
@@ -277,6 +277,9 @@ fn draw_up_to<G: Rng<OUTPUT>, const OUTPUT: usize>(
 /// `&mut iterator` to keep them. The slots then hold a sample of the items before it, and the words
 /// stay consumed. If there are no slots, a number is drawn for each item all the same.
 ///
+/// `all`: if every item that the iterator may give passes a test, then on success every filled slot
+/// holds an item that passes it.
+///
 /// Preconditions: `next` can be called (`can`), the iterator ends (`ends`), and it yields fewer
 /// than 2^64 items (`fits`).
 pub fn reservoir<I: Iterator + Drop, G: Rng<OUTPUT>, const OUTPUT: usize>(
@@ -298,10 +301,13 @@ where
         × (chosen.new ≡ items_at run.items pass.chosen ++ drop (length pass.chosen) chosen.old)
         × (rng.new ≡ pass.state) × (run.len ≡ pass.taken) × (run.whole ≡ is_ok result)) }
 
-    // On success (`filled`), and after an error (`refused`).
+    // On success (`filled`, `all`), and after an error (`refused`).
     ensures filled { IfOk result (λ filled. WholeRun I.next_gives items (λ run.
         (filled ≡ min (length chosen.old) run.len)
         × All (Contains run.items) (take filled chosen.new))) }
+    ensures all { (test : I.Item → Bool)
+        → EachRunFrom I.next_gives items (λ run. AllItems run (λ item. test item ≡ true))
+        → IfOk result (λ filled. All (λ item. test item ≡ true) (take filled chosen.new)) }
     ensures refused { OnErr result (SomeRun I.next_gives items (λ run.
         All (Contains run.items) chosen.new)) }
 

@@ -1,6 +1,7 @@
 -- A reservoir while it runs: what it holds after each item, and when a draw returns an error.
-use Rattle.std.proofs.Common.{◌≡◌, ◌≢◌, ℕ, zero, suc, ◌+◌, ◌-◌, ◌*◌, ◌<◌, ◌≤◌, min, List, [], ◌∷◌, ◌++◌, length, get_or, set}
+use Rattle.std.proofs.Common.{◌≡◌, ◌≢◌, ℕ, zero, suc, ◌+◌, ◌-◌, ◌*◌, ◌<◌, ◌≤◌, min, Bool, true, List, [], ◌∷◌, ◌++◌, length, get_or, set}
 use Rattle.std.proofs.Common.{drop, take, slice_get, Result, Ok, Err, Some, inl, inr, refl, sym, ◌∙◌, ap, subst, arith, length-append, append_assoc, append-nil, add-zero, add-one, zero-add}
+use Rattle.std.specs.Option.{IfSome}
 use Rattle.std.specs.Result.{result_unwrap_or}
 use Rattle.std.specs.List.{All, AllPairs, Contains, range_with_len}
 use Rattle.std.proofs.Math.Seq.{get_or-append_seam, set-append_seam, take-append_seam}
@@ -88,6 +89,13 @@ members items behind slots numbers n below long held =
     let ys = items_at items numbers in
     let front : length ys ≡ n = length-items items numbers below ∙ long in
     rw (held, ← front, take-append_seam ys behind) (items-contained items numbers below)
+
+-- if all items that were given pass a test, so do the filled slots
+pub filled_pass : {A : Type 0} (items filled : List A) (test : A → Bool) → ((k : ℕ) → IfSome (slice_get items k) (λ x. test x ≡ true))
+    → All (Contains items) filled → All (λ x. test x ≡ true) filled
+filled_pass items filled test pass held =
+    All-weaker (Contains items) (λ x. test x ≡ true)
+    (λ x at. subst (λ y. test y ≡ true) at.2 (rw (slice_get-get_or items at.0 x at.1) at (pass at.0))) filled held
 
 -- replacing a number by one greater than all of them keeps the numbers different
 apart-set : (numbers : List ℕ) (slot n : ℕ) → All (λ x. x < n) numbers → AllPairs (λ x y. x ≢ y) numbers

@@ -3,7 +3,7 @@ use Rattle.std.proofs.iter.runs.Made.{run, to_item, to_end, Fits-at}
 use Rattle.std.proofs.lemmas.Bool.{cases_lt}
 use Rattle.std.proofs.lemmas.List.{take_all}
 use Rattle.std.proofs.lemmas.Result.{err_from_is_err_and}
-use Rattle.nanorand_core.proofs.lemmas.ReservoirLemmas.{unwrapped, members, holds-nothing, holds-filled, holds-replaced, pass-refused, words-refused, long-refused, held-longer, below-longer}
+use Rattle.nanorand_core.proofs.lemmas.ReservoirLemmas.{unwrapped, members, filled_pass, holds-nothing, holds-filled, holds-replaced, pass-refused, words-refused, long-refused, held-longer, below-longer}
 use Rattle.nanorand_core.proofs.samples.reservoir.Goals as goal
 
 pub loop-item-init : goal.loop-item-init
@@ -34,6 +34,7 @@ returns-in_err-slot g c =
     rw (kept.1, kept.2) (record {
       sample = (part, refl, rw ended (refl, held, refl, refl, refl));
       filled = tt;
+      all = λ test each. tt;
       refused = (part, refl, rw (take_all (length numbers) c.loop-item.chosen (omega (arith, h.long, full))) at (members _ _ _ numbers _ below refl held));
       apart = (part, refl, (numbers, held, long, below, h.apart, refl));
       refusal = refused.1;
@@ -89,9 +90,11 @@ returns g c =
     let all = run steps c.args.items seen true
     (to_end steps c.args.items seen (c.next.new.self, (c.loop-item.item-iterator, led, c.in-None.ensures.steps))) in
     let answer : c.min.result ≡ length numbers = omega (arith, h.long, c.min.ensures) in
+    let held = members _ _ _ numbers _ h.below (sym answer) h.held in
     record {
       sample = (all, refl, rw h.pass (ap (λ (n : ℕ). Ok n) answer, h.held, refl, refl, refl));
-      filled = (all, refl, refl, (answer ∙ h.long, members _ _ _ numbers _ h.below (sym answer) h.held));
+      filled = (all, refl, refl, (answer ∙ h.long, held));
+      all = λ test each. filled_pass seen _ test (each all all.seen refl) held;
       refused = tt;
       apart = (all, refl, (numbers, h.held, h.long, h.below, h.apart, refl));
       refusal = tt;
