@@ -30,29 +30,29 @@ module _ {F G T : Type 0} (Call : F → G → T → F → G → Type 0) where
   EachCallPasses test =
       (f : F) (g : G) (x : T) (f' : F) (g' : G) → Call f g x f' g' → test x ≡ true
 
-  -- Calls of one closure f, such as one that captures the bounds of a range and does not change
-  -- them: every call leaves f as it was.
-  module _ (f : F) where
-    -- Every call of f leaves f as it was, returns `value` of the state before it, and leaves
-    -- `after` of that state.
-    abbrev pub OwnCallsDraw : (G → T) → (G → G) → Type 0
-    OwnCallsDraw value after =
-        (g : G) (x : T) (f' : F) (g' : G) → Call f g x f' g'
-        → (f' ≡ f) × (x ≡ value g) × (g' ≡ after g)
+-- Calls of one closure f that leave it as it was. An example is a closure that captures the bounds
+-- of a range, and does not change them.
+module _ {F G T : Type 0} (Call : F → G → T → F → G → Type 0) (f : F) where
+  -- Every call of f leaves f as it was, returns `value` of the state before it, and leaves `after`
+  -- of that state.
+  abbrev pub OwnCallsDraw : (G → T) → (G → G) → Type 0
+  OwnCallsDraw value after =
+      (g : G) (x : T) (f' : F) (g' : G) → Call f g x f' g'
+      → (f' ≡ f) × (x ≡ value g) × (g' ≡ after g)
 
-    -- Every call of f leaves f as it was, and leaves `after` of the state before it.
-    abbrev pub OwnCallsLeave : (G → G) → Type 0
-    OwnCallsLeave after =
-        (g : G) (x : T) (f' : F) (g' : G) → Call f g x f' g' → (f' ≡ f) × (g' ≡ after g)
+  -- Every call of f leaves f as it was, and leaves `after` of the state before it.
+  abbrev pub OwnCallsLeave : (G → G) → Type 0
+  OwnCallsLeave after =
+      (g : G) (x : T) (f' : F) (g' : G) → Call f g x f' g' → (f' ≡ f) × (g' ≡ after g)
 
-    -- Every call of f leaves f as it was, and makes at most `most` steps: it leaves the state after
-    -- that many steps.
-    abbrev pub OwnCallsTake : (G → G) → ℕ → Type 0
-    OwnCallsTake step most =
-        (g : G) (x : T) (f' : F) (g' : G) → Call f g x f' g'
-        → (f' ≡ f) × ((n : ℕ) × (n ≤ most) × (g' ≡ iterate step n g))
+  -- Every call of f leaves f as it was, and makes at most `most` steps: it leaves the state after
+  -- that many steps.
+  abbrev pub OwnCallsTake : (G → G) → ℕ → Type 0
+  OwnCallsTake step most =
+      (g : G) (x : T) (f' : F) (g' : G) → Call f g x f' g'
+      → (f' ≡ f) × ((n : ℕ) × (n ≤ most) × (g' ≡ iterate step n g))
 
-    -- Every call of f leaves f as it was, and returns a value that passes the test.
-    abbrev pub OwnCallsPass : (T → Bool) → Type 0
-    OwnCallsPass test =
-        (g : G) (x : T) (f' : F) (g' : G) → Call f g x f' g' → (f' ≡ f) × (test x ≡ true)
+  -- Every call of f leaves f as it was, and returns a value that passes the test.
+  abbrev pub OwnCallsPass : (T → Bool) → Type 0
+  OwnCallsPass test =
+      (g : G) (x : T) (f' : F) (g' : G) → Call f g x f' g' → (f' ≡ f) × (test x ≡ true)
