@@ -2,17 +2,15 @@
 # Tests the Rust packages as a registry would hold them: tests/packed.sh. The last line is N passed, M failed.
 #
 # It packs each package, unpacks it into a folder of its own, and runs its tests there, with the oldest compiler that the
-# packages support if it is there: those of the library with optimization, and again without its feature std. No package
-# sees this repository: they get each other from a folder that stands in for the registry. The crates of others in it are
-# Debian's. The only warning that packing may give is that a manifest names no repository.
+# packages support if it is there. No package sees this repository: they get each other from a folder that stands in for
+# the registry. The crates of others in it are Debian's. The only warning that packing may give is that a manifest names
+# no repository.
 # shellcheck source=tests/lib.sh
 source "$(dirname "${BASH_SOURCE[0]}")/lib.sh"
 shelf=$work/registry
 from_registry=(--offline --config 'source.crates-io.replace-with="packed"'
     --config "source.packed.directory=\"$shelf\"")
 export CARGO_TARGET_DIR=$work/target
-# With several units, rustc compiles inline functions in each of them, which takes a third more time.
-export CARGO_PROFILE_RELEASE_CODEGEN_UNITS=1
 
 # Packs what these arguments of cargo name, and fails for any warning but the one that is allowed.
 packs() {
@@ -68,9 +66,8 @@ mkdir "$shelf"
 step grep -qx 'publish = false' rust/nanorand-c/Cargo.toml
 step packs --offline --workspace --exclude nanorand-answers
 step put_into_the_registry
-# With optimization by this compiler. tests/workspace.sh runs the same tests without it, by the newest one.
-tests_alone nanorand-proved --release
 # Both are skipped because they are slow without optimization: the sweeps, and the lists of all sizes of the programs.
+tests_alone nanorand-proved -- --skip sweeps::
 tests_alone nanorand-proved --no-default-features --lib --tests -- --skip sweeps::
 for name in nanorand-program lots draw; do
     tests_alone "$name" -- --skip all_

@@ -226,11 +226,8 @@ else
 fi
 all_covered "$coverage" "${sources[@]}"
 cargo_tests cargo test --offline --workspace --doc
-# With optimization: the answers, and a million states for each vector body that this machine has. tests/packed.sh runs
-# all tests of the library with it.
-cargo_tests env NANORAND_STATES=1000000 cargo test --offline --release -p nanorand-proved --lib --test calls \
-    --test chacha_lanes --test streams
-cargo_tests cargo test --offline --release -p nanorand-answers
+# A million states for each vector body that this machine has.
+cargo_tests env NANORAND_STATES=1000000 cargo test --offline --release -p nanorand-proved -p nanorand-answers
 cargo_tests cargo test --offline --no-default-features --doc -p nanorand-proved
 step cargo check --offline --no-default-features --all-targets -p nanorand-proved
 cargo_tests cargo test --offline --no-default-features -p lots
