@@ -99,7 +99,7 @@ members() {
     cc -O2 -o "$work/empty" "$work/empty.c"
     cc -O2 "-I$root/include" -o "$work/one" "$work/one.c" "$archive"
     bytes=$(($(code_of "$work/one") - $(code_of "$work/empty")))
-    check 'a program with one call' "$([ "$bytes" -le 8192 ] || echo "it has $bytes bytes more than an empty program")"
+    check 'a program with one call' "$([ "$bytes" -le 10240 ] || echo "it has $bytes bytes more than an empty program")"
 }
 
 # The number of bytes of a program's code and constants.
