@@ -354,8 +354,8 @@ public:
     /// Choose an odd length, at least as long as what any task draws: parts do not overlap then. Nothing stops a task
     /// that draws more. The length is odd because draws of WyRand and of Pcg64 are correlated if a large power of two
     /// divides the distance between them. A draw is what `rng()` takes: 8 bytes, or for ChaCha8, ChaCha12 and ChaCha20
-    /// a block of 64 bytes. Throws `past_period` if the part ends past the period: 2^64 draws for WyRand and ChaCha,
-    /// 2^126 for Pcg64, 2^67 for Keystream.
+    /// a block of 64 bytes. A length of 0 is no error: then all tasks draw the same numbers. Throws `past_period` if
+    /// the part ends past the period: 2^64 draws for WyRand and ChaCha, 2^126 for Pcg64, 2^67 for Keystream.
     [[nodiscard]] Generator part(std::uint64_t index, std::uint64_t draws) const
     {
         state_type moved = state_;

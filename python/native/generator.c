@@ -95,7 +95,8 @@ int await_state(Generator *rng)
     if (rng->condition == READY) {
         return 0;
     }
-    PyErr_Format(PyExc_RuntimeError, "%s has no state: its __init__ was not called", type_name((PyObject *)rng));
+    PyErr_Format(PyExc_RuntimeError, "%s has no state: %s.__init__ was not called", type_name((PyObject *)rng),
+                 rng->kind->name);
     return -1;
 }
 
@@ -414,15 +415,79 @@ static PyObject *call_part(PyObject *self, PyObject *const *given, Py_ssize_t pl
     return made;
 }
 
+/* Adds the slots of a subclass that have values. */
+static int add_slots(PyObject *self, PyObject *names, PyObject *slots)
+{
+    for (Py_ssize_t i = 0; i < PyTuple_GET_SIZE(names); i++) {
+        PyObject *name = PyTuple_GET_ITEM(names, i);
+        PyObject *value = PyObject_GetAttr(self, name);
+        if (value == NULL && PyErr_ExceptionMatches(PyExc_AttributeError)) {
+            PyErr_Clear();
+            continue;
+        }
+        int added = value == NULL ? -1 : PyDict_SetItem(slots, name, value);
+        Py_XDECREF(value);
+        if (added < 0) {
+            return -1;
+        }
+    }
+    return 0;
+}
+
+/* Returns the slots of a subclass that have values, as a dict. `copyreg` finds their names. */
+static PyObject *slots_of(PyObject *self)
+{
+    PyObject *copyreg = PyImport_ImportModule("copyreg");
+    PyObject *found = copyreg == NULL ? NULL : PyObject_CallMethod(copyreg, "_slotnames", "O", Py_TYPE(self));
+    PyObject *names = found == NULL ? NULL : PySequence_Tuple(found);
+    PyObject *slots = names == NULL ? NULL : PyDict_New();
+    if (slots != NULL && add_slots(self, names, slots) < 0) {
+        Py_CLEAR(slots);
+    }
+    Py_XDECREF(copyreg);
+    Py_XDECREF(found);
+    Py_XDECREF(names);
+    return slots;
+}
+
+/* Returns the attributes of a subclass as a dict, or None if its instances have no dict. */
+static PyObject *dict_of(PyObject *self)
+{
+    PyObject *dict = PyObject_GetAttrString(self, "__dict__");
+    if (dict == NULL && PyErr_ExceptionMatches(PyExc_AttributeError)) {
+        PyErr_Clear();
+        Py_RETURN_NONE;
+    }
+    return dict;
+}
+
+/* Returns the attributes and the slots of a subclass, as `pickle` and `copy` set them, or None if there are none. */
+static PyObject *attributes_of(PyObject *self)
+{
+    PyObject *slots = slots_of(self);
+    PyObject *dict = slots == NULL ? NULL : dict_of(self);
+    if (dict == NULL) {
+        Py_XDECREF(slots);
+        return NULL;
+    }
+    if (dict != Py_None || PyDict_GET_SIZE(slots) > 0) {
+        return Py_BuildValue("(NN)", dict, slots);
+    }
+    Py_DECREF(slots);
+    return dict;
+}
+
 static PyObject *call_reduce(PyObject *self, PyObject *Py_UNUSED(nothing))
 {
     PyObject *maker = PyObject_GetAttrString((PyObject *)Py_TYPE(self), "from_state");
     PyObject *state = maker == NULL ? NULL : get_state(self, NULL);
-    if (state == NULL) {
+    PyObject *attributes = state == NULL ? NULL : attributes_of(self);
+    if (attributes == NULL) {
         Py_XDECREF(maker);
+        Py_XDECREF(state);
         return NULL;
     }
-    return Py_BuildValue("(N(N))", maker, state);
+    return Py_BuildValue("(N(N)N)", maker, state, attributes);
 }
 
 static PyObject *compare(PyObject *one, PyObject *other, int operation)
@@ -630,8 +695,6 @@ static PyMethodDef calls[] = {
     {"from_entropy", call_from_entropy, METH_CLASS | METH_NOARGS, from_entropy_doc},
     {"copy", call_copy, METH_NOARGS, copy_doc},
     {"part", CALL(call_part), METH_FASTCALL | METH_KEYWORDS, part_doc},
-    {"__copy__", call_copy, METH_NOARGS, NULL},
-    {"__deepcopy__", call_copy, METH_O, NULL},
     {"__reduce__", call_reduce, METH_NOARGS, NULL},
     {NULL, NULL, 0, NULL},
 };

@@ -132,6 +132,24 @@ class Unseeded:
         super().__init__(*{WyRand: [7], Pcg64: [7]}.get(type(self).__bases__[1], (KEY, NONCE)))
 
 
+class Named(Pcg64):
+    """A user's subclass: its `__init__` needs two arguments, and it has an attribute."""
+
+    def __init__(self, seed, names):
+        super().__init__(seed)
+        self.names = names
+
+
+class Slotted(WyRand):
+    """The same with slots, of which one may have no value."""
+
+    __slots__ = ("name", "unset")
+
+
+class Both(Slotted):
+    """The same with slots and attributes."""
+
+
 # A subclass of each class, in this module, where pickles find them.
 UNSEEDED = {kind: type(f"Unseeded{kind.__name__}", (Unseeded, kind), {}) for kind in CLASSES.values()}
 globals().update({own.__name__: own for own in UNSEEDED.values()})
@@ -189,6 +207,46 @@ class States(unittest.TestCase):
             for made in copies:
                 self.assertIs(type(made), type(rng))
                 self.assertEqual(made, rng)
+
+    def test_copies_keep_attributes(self):
+        """Copies and pickles keep the attributes and the slots of a subclass, like those of a class of `randoms`."""
+        named, slotted, both = Named(5, ["a"]), Slotted(5), Both(5)
+        slotted.name = both.name = "b"
+        both.other = None
+        protocols = range(pickle.HIGHEST_PROTOCOL + 1)
+        pickled = [lambda rng, number=number: pickle.loads(pickle.dumps(rng, number)) for number in protocols]
+        for way in [*COPIES, *pickled]:
+            self.assertEqual((way(named), vars(way(named))), (named, {"names": ["a"]}))
+            self.assertEqual((way(slotted), way(slotted).name), (slotted, "b"))
+            self.assertFalse(hasattr(way(slotted), "unset"))
+            self.assertEqual((way(both), way(both).name, vars(way(both))), (both, "b", {"other": None}))
+        self.assertIs(copy.copy(named).names, named.names)
+        self.assertIsNot(copy.deepcopy(named).names, named.names)
+        named.names.append(named)
+        made = copy.deepcopy(named)
+        self.assertIs(made.names[1], made)
+        self.assertEqual(len(WyRand(5).__reduce__()), len(Slotted(5).__reduce__()))
+        self.assertIsNone(Slotted(5).__reduce__()[2])
+
+    def test_names_of_slots(self):
+        """An exception at a slot, or of what should name the slots, is that of the copy."""
+        class Wrong(Slotted):
+            __slotnames__ = 5
+
+        class Refusing(WyRand):
+            def __getattribute__(self, name):
+                if name == refused:
+                    raise KeyError(name)
+                return super().__getattribute__(name)
+
+        class RefusingSlots(Refusing):
+            __slots__ = ("slot",)
+
+        for refused, own in (("__dict__", Refusing), ("slot", RefusingSlots)):
+            with self.assertRaises(KeyError):
+                copy.copy(own(5))
+        with self.assertRaises(TypeError):
+            copy.copy(Wrong(5))
 
     def test_copies_of_one_made_of_nothing(self):
         """Every kind of copy works, although the class is called without a seed."""

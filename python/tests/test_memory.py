@@ -704,7 +704,8 @@ class Changing(unittest.TestCase):
             calls += [lambda rng, name=name, given=given: getattr(rng, name)(*given) for name, given in own.items()
                       if hasattr(kind, name)]
             for call in calls:
-                with self.assertRaisesRegex(RuntimeError, "^Own has no state: its __init__ was not called$"):
+                wanted = f"^Own has no state: {kind.__name__}.__init__ was not called$"
+                with self.assertRaisesRegex(RuntimeError, wanted):
                     call(Own())
             rng = Own()
             rng.state = kind.from_entropy().state

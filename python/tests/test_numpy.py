@@ -238,7 +238,8 @@ class States(unittest.TestCase):
 
     def test_of_a_generator_without_a_state(self):
         for kind, made in BITS.items():
-            with self.assertRaisesRegex(RuntimeError, f"^{made.__name__} has no state: its __init__ was not called$"):
+            wanted = f"^{made.__name__} has no state: {made.__name__}.__init__ was not called$"
+            with self.assertRaisesRegex(RuntimeError, wanted):
                 kind.of(made.__new__(made))
 
     def test_pickles_and_copies(self):

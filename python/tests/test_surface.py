@@ -19,7 +19,7 @@ COMPARISONS = {"__eq__", "__ne__", "__lt__", "__le__", "__gt__", "__ge__"}
 HUGE = 10**5000  # more digits than Python converts to text
 # The special methods of generators. Any other one would be a further ability: an order, a length, a text.
 SPECIAL = {
-    "Generator": {"__new__", "__hash__", "__copy__", "__deepcopy__", "__reduce__", *COMPARISONS},
+    "Generator": {"__new__", "__hash__", "__reduce__", *COMPARISONS},
     **{kind.__name__: {"__new__", "__init__", "__repr__"} for kind in CLASSES.values()},
     "GeneratorRandom": {"__init__", "__init_subclass__", "__reduce__", "__setstate__"},
     "BaseRandom": {"__new__"},
