@@ -2,7 +2,8 @@
 """Compares the declarations of the exports, in Rust and in C, with the proved functions: tests/declarations.py.
 
 No compiler sees a declaration together with the function, and the linker compares only names. The script also compares
-the exports of the library that cargo builds, the attributes for null pointers and statuses in the header, the results
+the exports of the library that cargo builds, the attributes for null pointers and statuses in the header and what it
+says of null pointers, the crates of the kit that the README names as trusted and those of crates.txt, the results
 in the header of C++ that have to be read, the structs that the exports take or return, the version and the repository's
 address that each part names, the headings of the changelogs, and the C functions and statuses that documents name. It
 finds a generator of the Rust crate that lacks what the files of layer/ have for all of them. The last line is N passed,
@@ -15,6 +16,7 @@ from pathlib import Path
 
 ROOT = Path(__file__).resolve().parent.parent
 sys.path.insert(0, str(ROOT / "tools"))
+from crates import below, crates  # noqa: E402
 from rattle import exports_of, is_laid_out_as_in_c, items_at, name_and_type, text_of  # noqa: E402
 
 CALLED = "tests/against_c/tests/common/mod.rs"
@@ -70,6 +72,11 @@ CHANGELOGS = "CHANGELOG.md", "rust/nanorand-proved/CHANGELOG.md"
 CHANGELOG_TITLE, CHANGELOG_FIRST = "# Changelog", "## [Unreleased]"
 CHANGELOG_LATER = re.compile(r"## \[\d+\.\d+\.\d+\] - (\d{4}-\d\d-\d\d|not released)"
                              r"|### (Added|Changed|Deprecated|Removed|Fixed|Security)")
+# What the header says of null pointers: the attributes of the functions say the same to compilers.
+NULLS = ["No pointer may be null, except that of an array of length 0.",
+         "For compilers: the numbers of the parameters that must not be null; a status that must not be ignored."]
+# The crates whose dependencies are those of the library and the programs, and the crate of the adapters.
+PROVED, ADAPTERS = ("nanorand", "nanorand_c", "draw", "lots"), "nanorand_rand"
 # Documents that name C functions and their statuses: the patterns of a name and of a table row for a status.
 NAMES = {
     "c/README.md": r"\bnanorand_(?!v1_|c\b)(\w+)",
@@ -389,6 +396,27 @@ def size_problems(header):
     return [[] if wanted in read("c/README.md") else [f"c/README.md: it does not say {wanted}"]]
 
 
+def null_problems(header):
+    """The header says of null pointers only what its attributes say."""
+    comments = " ".join(re.findall(r"/\*(.*?)\*/", read(header), re.S)).replace("*", " ")
+    found = re.findall(r"(?<=[.;] )[^.;]*\bnull\b[^.;]*|For compilers: [^;]*\bnull\b", " ".join(comments.split()), re.I)
+    wrong = [text for text in found if not any(text in wanted for wanted in NULLS)]
+    return [[f"{header}: of null pointers it says: {text}" for text in wrong] if len(found) == len(NULLS) else
+            [f"{header}: of null pointers it says: {found}"]]
+
+
+def trusted_problems():
+    """The README names the crates of the kit whose contracts are trusted. crates.txt has no others."""
+    all_crates = crates()
+    of_proved = {name for one in PROVED for name in below(one, all_crates)} - all_crates.keys()
+    of_adapters = set(all_crates[ADAPTERS].libraries) - all_crates.keys() - of_proved
+    of_others = {name for one in all_crates.values() for name in one.libraries} - all_crates.keys() - of_proved
+    text = " ".join(read("README.md").partition("that `crates.txt` names.")[2].partition("\n\n")[0].split())
+    named = [set(re.findall(r"`(\w+)`", sentence)) for sentence in text.split(". ")]
+    return [[] if named == [of_proved, of_adapters | {ADAPTERS}, of_others] else
+            [f"README.md: it names {named} as trusted, crates.txt has {of_proved}, {of_adapters}, {of_others}"]]
+
+
 def generator_problems():
     """Each generator of the Rust crate has its lines in the files of layer/."""
     sources = "".join(path.read_text(encoding="utf-8") for path in sorted((ROOT / CRATE / "rand").glob("*.rs")))
@@ -411,6 +439,8 @@ def main():
     cases += problems(CALLED, called_declarations(), in_rust, comparable)
     cases += problems(header, c_declarations(header), library, comparable)
     cases += attribute_problems(header, library)
+    cases += null_problems(header)
+    cases += trusted_problems()
     cases += unread_problems("c/include/nanorand.hpp")
     cases += problems(BY_CARGO, exports_by_cargo(), in_rust, comparable)
     cases += problems("bench/kit/src/calls.rs", rust_declarations("bench/kit/src/calls.rs"), bench, types)

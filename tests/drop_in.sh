@@ -136,6 +136,10 @@ fi
 cargo_tests cargo test "${debian[@]}"
 cargo_tests cargo test "${debian[@]}" --all-features
 cargo_tests cargo test "${debian[@]}" --no-default-features --features alloc,wyrand,pcg64,chacha
+# Each feature enables what it needs.
+for feature in std alloc tls wyrand pcg64 chacha getrandom zeroize rdseed; do
+    step cargo check "${debian[@]}" --no-default-features --features "$feature"
+done
 step without_std
 if is_version 1.63 /usr/bin/rustc; then
     cargo_tests env PATH="/usr/bin:$PATH" CARGO_TARGET_DIR="$here/target/oldest" cargo test "${debian[@]}" --all-features

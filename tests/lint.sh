@@ -12,6 +12,14 @@ shell_scripts() {
     done
 }
 
+# The places where a test compares a value with itself, which proves nothing.
+compared_with_itself() {
+    git grep --untracked -nP '\b(?:assert_eq|assert_ne|equal|equal_at)!?\((?:&?rt, )?([^(),]+), &?\1[,)]' -- \
+        'crates/*_tests/*' 'rust/*/tests/*' tests/against_c
+    git grep --untracked -nP '\.(?:assertEqual|same)\((?:[^(),]+, )?([^(),]+), \1[,)]' -- '*.py'
+}
+
+check 'comparisons of a value with itself' "$(compared_with_itself)"
 if available flake8 flake8; then
     step flake8
 else

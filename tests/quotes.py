@@ -9,9 +9,9 @@ A quoted block follows a line that names its file, relative to the document's fo
     ```
 
 An item is the name of a function, type or constant, quoted with its comment and without attributes. `imports` stands
-for the lines that import. `the whole file` stands for a whole file. The block is `rust` for a file of Rattle or Rust,
-`antt` for one of definitions or proofs, and `c`, `cpp`, `python` or `cmake` for one of C, C++, Python or CMake. In C++
-an item is the name of a struct.
+for the lines that import. `the whole file` stands for a whole file, with its white space; that of items may differ. The
+block is `rust` for a file of Rattle or Rust, `antt` for one of definitions or proofs, and `c`, `cpp`, `python` or
+`cmake` for one of C, C++, Python or CMake. In C++ an item is the name of a struct.
 
 In a table whose first column links a file of `specs/`, the second column names definitions. Each has to be declared in
 that file. In docs/PROMISES.md, each clause (`function: clause, clause`) and mutant has to exist, and each promise has
@@ -81,6 +81,8 @@ def quote(path, selected):
 
 def first_difference(wanted, found):
     """The first line of the source that the block lacks, or the first line of the block that the source lacks."""
+    if "".join(found.split()) == "".join(wanted.split()):
+        return "the white space is not that of the source"
     squeezed = "".join(found.split())
     for line in wanted.splitlines():
         if "".join(line.split()) not in squeezed:
@@ -129,7 +131,8 @@ def check(document, write):
             continue
         if write and wanted != block:
             block = wanted
-        if "".join(block.split()) == "".join(wanted.split()):
+        is_whole = mark["items"] == "the whole file"
+        if block == wanted if is_whole else "".join(block.split()) == "".join(wanted.split()):
             passed += 1
         else:
             wrong.append(f"{place}: {mark['path']}: {mark['items']}: {first_difference(wanted, block)}")

@@ -55,6 +55,7 @@ CHANGES = [
     ("tests/quotes.py", "docs/PROMISES.md", "`BufferedRng::new: rest, inner`", "`WyRand::new: rest, inner`"),
     ("tests/quotes.py", "c/README.md", "nanorand_wyrand_below(&rng, 6);", "nanorand_wyrand_below(&rng, 7);"),
     ("tests/quotes.py", "c/examples/roll.c", "return 0;", "return 1;"),
+    ("tests/quotes.py", "c/README.md", "rng = ctypes.c_uint64()  #", "rng = ctypes.c_uint64() #", "the white space"),
     ("tests/quotes.py", "c/examples/shuffle.cpp", "rng.range(1, 6)", "rng.range(1, 7)"),
     ("tests/quotes.py", "c/examples/CMakeLists.txt", "STANDARD 17", "STANDARD 11"),
     ("tests/quotes.py", "crates/nanorand/CALLING.md", "ensures", "requires"),
@@ -104,6 +105,8 @@ CHANGES = [
     ("tests/declarations.py", "rust/nanorand-proved/src/layer/hash.rs", "Hash for ChaChaGroups<", "Hash for Groups<"),
     ("tests/declarations.py", "rust/nanorand-proved/src/layer/seeds.rs", "> ChaChaStream<ROUNDS> {", "> Stream<ROUNDS> {"),
     ("tests/declarations.py", "rust/nanorand-rand-core/Cargo.toml", 'repository = "URL"', 'repository = "LRU"'),
+    ("tests/declarations.py", "c/include/nanorand.h", "an array of length 0.", "an array of length 0 or of a result."),
+    ("tests/declarations.py", "crates.txt", "nanorand_fairness sha2", "nanorand_fairness rand sha2"),
     ("tools/record.py --check", "docs/PAGE.md", '3: "Chidi"', '3: "Ada"'),
     ("tools/record.py --check", "docs/PAGE.md", "\nend of the record\n", "\n"),
     ("tools/record.py --check", "docs/PAGE.md", "reserves: 1\n", "reserves: 2\n"),
@@ -444,6 +447,30 @@ def streams(counts, room):
         counts.same(f"builds {texts}", lines[-1], f"{1 - failed} passed, {failed} failed")
 
 
+def processors(counts, room):
+    """A library runs on every processor if exactly the functions for AVX2 have later instructions: not fewer, as if
+    the disassembly had none, nor others."""
+    program(room / "objdump", f"cat {room / 'code'}\n")
+    of_avx2 = [f"<_RNvNt4simd4avx29with_avx2_{number}>" for number in range(5)]
+    for names, wanted in [(of_avx2[:4], 0), (of_avx2[:3], 1), (of_avx2, 1), ([], 1), ([*of_avx2[:3], "<fill>"], 1),
+                          ([*of_avx2[:4], "<fill>"], 1)]:
+        code = [f"0000000000001000 {name}:\n    1000:\tvpaddd %ymm0,%ymm1,%ymm2\n" for name in names]
+        (room / "code").write_text("".join(code), encoding="utf-8")
+        _, status = in_lib("runs_on_every_processor library >/dev/null", room)
+        counts.same(f"later instructions in {names}", status, wanted)
+
+
+def page_parts(counts, room):
+    """web/tests/run.py runs each module that has a `run`, and its help lists the parts."""
+    text = (ROOT / "web/tests/run.py").read_text(encoding="utf-8")
+    called = re.findall(r'^            "(\w+)": lambda: (\w+)\.', text, re.M)
+    listed = re.search(r"The parts are (.*?)\. The last", text, re.S)[1].replace(" and ", " ")
+    counts.same("the parts that the help lists", re.findall(r"\w+", listed), [part for part, _ in called])
+    modules = {path.stem for path in (ROOT / "web/tests").glob("*.py")
+               if re.search(r"^def (run|random_draws)\(", path.read_text(encoding="utf-8"), re.M)}
+    counts.same("the modules whose parts run", {module for _, module in called}, modules)
+
+
 def lints(counts, room):
     """What a linter or a compiler warns of is a failure, in each script that calls one."""
     scripts = [path for folder in ("tests", "c/tests") for path in sorted((ROOT / folder).glob("*.sh"))]
@@ -779,6 +806,8 @@ def ended_early(counts, room):
         found = done.stdout.splitlines()[-1:], done.returncode
         case = f"a part of the page's tests: {body}, errors {errors}"
         counts.same(case, found, ([wanted], int(" 0 failed" not in wanted)))
+    done = ran(["web/tests/run.py", "lots", "chromium", "--only", "glu"], room)
+    counts.same("no part of this name", (done.stdout.splitlines()[-1:], done.returncode), (["0 passed, 1 failed"], 1))
     drivers.write_text(texts[0], encoding="utf-8")
     part.write_text(texts[1], encoding="utf-8")
 
@@ -787,8 +816,8 @@ def main():
     counts = Counts()
     with tempfile.TemporaryDirectory() as name:
         room = Path(name).resolve()
-        for part in (sums, quick, crate, cargo, units, parts, streams, lints, opinions, records, all_compared, mutants,
-                     definitions, installs):
+        for part in (sums, quick, crate, cargo, units, parts, streams, processors, page_parts, lints, opinions, records,
+                     all_compared, mutants, definitions, installs):
             (room / part.__name__).mkdir()
             part(counts, room / part.__name__)
         copy_of_repository(room / "copy")

@@ -322,7 +322,15 @@ def check(book, html):
 def sums(book):
     """A sum of each file's signatures, clauses and definitions, which their layout and comments do not change."""
     files = {path.relative_to(ROOT): entries for path, entries in book.chapters.items() if path.suffix != ".md"}
-    return {name.as_posix(): sum_of(entries) for name, entries in files.items()}
+    return {**{name.as_posix(): sum_of(entries) for name, entries in files.items()}, **sums_of_mutants()}
+
+
+def sums_of_mutants():
+    """A sum of the names of each file's mutants, and of what refuses them."""
+    texts = {path: path.read_text(encoding="utf-8") for path in sorted((ROOT / "crates").glob("*/mutants/**/*.edits"))}
+    mutants = {path: "\n".join(re.findall(r"^mutant .*$", text, re.M)) for path, text in texts.items()}
+    return {path.relative_to(ROOT).as_posix(): hashlib.sha256(text.encode()).hexdigest()[:16]
+            for path, text in mutants.items()}
 
 
 def sum_of(entries):
@@ -346,8 +354,8 @@ def check_all(book, html):
     for one in missing:
         print(f"FAILED the book lacks {one}")
     for one in changed:
-        print(f"FAILED {one}: a signature, a clause or a definition changed: "
-              "if none is weaker, run tools/contracts.py --sums")
+        print(f"FAILED {one}: a signature, a clause, a definition or a mutant changed: "
+              "if none is weaker and no mutant is gone, run tools/contracts.py --sums")
     print(f"{passed + same} passed, {len(missing) + len(changed)} failed")
     return bool(missing or changed)
 

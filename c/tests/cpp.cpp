@@ -528,6 +528,8 @@ void seeds_and_distances()
     far.discard({1, 1});
     draws = pcg64.distance(far);
     check("Pcg64", "a long distance", draws && draws->low == 0 && draws->high == 2);
+    draws = far.distance(pcg64);
+    check("Pcg64", "the distance back", draws && draws->low == 0 && draws->high == (std::uint64_t{1} << 62) - 2);
     check("Pcg64", "another cycle", !Pcg64::from_seed(0, 0).distance(Pcg64::from_seed(1, 0)));
 }
 

@@ -241,7 +241,8 @@ another_folder() {
 }
 
 # Prints a line for each version that follows: the version, whether find_package of CMake accepts the library below the
-# folder $1 for it, and the version of that library.
+# folder $1 for it, and the version of that library. A further line says so if CMake fails: a project may look for the
+# library more than once.
 found_by_cmake() {
     mkdir -p "$work/versions"
     cat >"$work/versions/CMakeLists.txt" <<'END'
@@ -255,8 +256,9 @@ foreach(wanted IN LISTS WANTED)
     message(STATUS "${wanted} ${nanorand_FOUND} ${nanorand_VERSION}")
 endforeach()
 END
-    cmake -S "$work/versions" -B "$work/versions/build" "-DPREFIX=$1" "-DWANTED=$(IFS=';' && echo "${*:2}")" 2>&1 |
-        sed -n 's/^-- \([0-9].*\)/\1/p'
+    cmake -S "$work/versions" -B "$work/versions/build" "-DPREFIX=$1" "-DWANTED=$(IFS=';' && echo "${*:2}")" \
+        >"$work/errors" 2>&1 || echo "failed: $(grep -m 1 -A 3 '^CMake Error' "$work/errors")"
+    sed -n 's/^-- \([0-9].*\)/\1/p' "$work/errors"
 }
 
 # Another release, whose numbers all have two digits, says its version. CMake accepts this version and older ones with
@@ -277,6 +279,7 @@ another_version() {
         return
     fi
     found_by_cmake "$prefix" "${accepted[@]}" "${refused[@]}" >"$work/found"
+    check 'CMake: found again' "$(sed -n '/^failed: /,/^[0-9]/p' "$work/found")"
     for wanted in "${accepted[@]}"; do
         check "CMake: version $wanted of 12.34.56" "$(grep -qFx "$wanted 1 12.34.56" "$work/found" || echo 'it is refused')"
     done
@@ -298,10 +301,10 @@ over_an_older_one() {
     check 'its bytes' "$(diff -r "$root" "$work/here/destination$work/here/usr" 2>&1)"
 }
 
-# CC may have options: this one leaves the libraries as they are.
+# CC may have options: this one leaves the libraries as they are. Without PREFIX, the files are below /usr/local.
 compiler_with_options() {
-    check 'CC with options' "$(install_from . PREFIX="$work/options" CC='cc -pipe')"
-    check 'the same bytes' "$(diff -r --no-dereference --exclude=pkgconfig "$root" "$work/options")"
+    check 'CC with options' "$(unset PREFIX && install_from . DESTDIR="$work/options" CC='cc -pipe')"
+    check 'the same bytes' "$(diff -r --no-dereference --exclude=pkgconfig "$root" "$work/options/usr/local" 2>&1)"
     check 'CC has to be there' "$(install_from . PREFIX="$work/options" CC='no_such_cc -pipe' >/dev/null && echo 'no error')"
 }
 

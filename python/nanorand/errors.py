@@ -1,9 +1,11 @@
 """The errors of this package.
 
-An error leaves the state of the generator unchanged, except for `Exhausted`: the words (random
-integers) that were rejected, and those drawn before them, stay consumed. A value of a wrong type,
-such as a float in place of an int, raises a `TypeError`. A message shows a number in digits, or its
-length in bits if it has more than about 100 digits.
+An error of this package leaves the state of the generator unchanged, except for `Exhausted`: the
+words (random integers) that were rejected, and those drawn before them, stay consumed. After a
+`MemoryError` for a number that has been drawn, and after an exception of a signal handler, the
+state may have changed too. A value of a wrong type, such as a float in place of an int, raises a
+`TypeError`. A message shows a number in digits, or its length in bits if it has more than about 100
+digits.
 
 >>> from nanorand import EmptyRange, WyRand
 >>> try:

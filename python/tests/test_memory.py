@@ -14,6 +14,7 @@ import sys
 import tracemalloc
 import unittest
 import weakref
+from unittest import mock
 
 try:
     import _testcapi
@@ -304,6 +305,20 @@ class Leaks(unittest.TestCase):
                 for place, call in enumerate(calls):
                     with self.subTest(kind=type(rng).__name__, name=name, place=place):
                         self.keeps_nothing(refused, call, rng)
+
+    def test_errors_that_cannot_be_imported(self):
+        """What the error would have said is freed."""
+        def fails(call, *arguments):
+            try:
+                call(*arguments)
+            except ImportError:
+                return
+            self.fail("the error is imported")
+
+        with mock.patch.dict(sys.modules, {"nanorand.errors": None}):
+            for call, *arguments in [(WyRand(1).choice, ()), (WyRand(1).range, 1, BIG), (lots.count, b"\n")]:
+                with self.subTest(call=call):
+                    self.keeps_nothing(fails, call, *arguments)
 
     def test_calls_of_random(self):
         for kind in RANDOMS:
@@ -627,7 +642,7 @@ class Changing(unittest.TestCase):
             self.assertEqual(items, [])
 
     def test_an_item_that_draws(self):
-        """If the call fails, draws that an item has made meanwhile are undone as well."""
+        """Draws that an item makes meanwhile count, even if the call fails. The items stay the same ones."""
         class Draws(list):
             def __getitem__(self, place):
                 self.rng.u64()

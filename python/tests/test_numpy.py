@@ -239,8 +239,11 @@ class States(unittest.TestCase):
     def test_of_a_generator_without_a_state(self):
         for kind, made in BITS.items():
             wanted = f"^{made.__name__} has no state: {made.__name__}.__init__ was not called$"
-            with self.assertRaisesRegex(RuntimeError, wanted):
-                kind.of(made.__new__(made))
+            references = sys.getrefcount(made)
+            for _ in range(100):
+                with self.assertRaisesRegex(RuntimeError, wanted):
+                    kind.of(made.__new__(made))
+            self.assertLess(sys.getrefcount(made) - references, 50)
 
     def test_pickles_and_copies(self):
         for bits in [*map(bits_of, STARTS), *(kind(SeedSequence(5)) for kind in BITS)]:

@@ -42,6 +42,17 @@ def makes() -> None:
     ChaCha20(bytes(32), rest=b"")  # type: ignore[call-arg]
 
 
+def returns_nothing(rng: Pcg64) -> None:
+    print(Stream(bytes(32)).seek(5))  # type: ignore[func-returns-value]
+    print(rng.jump(5))  # type: ignore[func-returns-value]
+    print(ChaCha8(bytes(32)).jump(5))  # type: ignore[func-returns-value]
+    print(rng.shuffle([1]))  # type: ignore[func-returns-value]
+    print(rng.shuffle_full([1]))  # type: ignore[func-returns-value]
+    print(rng.fill(bytearray(5)))  # type: ignore[func-returns-value]
+    print(rng.fill_range(bytearray(5), 1, 6))  # type: ignore[func-returns-value]
+    print(rng.fill_random(array.array("d", [1])))  # type: ignore[func-returns-value]
+
+
 def draws(rng: Generator) -> None:
     assert_type(rng.u64(), int)
     assert_type(rng.random(), float)

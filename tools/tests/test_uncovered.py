@@ -66,7 +66,9 @@ class Regions(unittest.TestCase):
         said = json.dumps({"data": [{"functions": functions}]})
         with mock.patch.multiple(uncovered, tools=lambda: ("merge", "show"), printed=lambda *_: said):
             found = uncovered.regions_of(Path("/none"), [Path("/rust/one/src")])
+            below = uncovered.regions_of(Path("/none"), [Path("/rust/one"), Path("/rust/tw")])
         self.assertEqual(found, {(Path(here), 1, 1, 1, 9): 10, (Path(here), 2, 1, 2, 9): 0})
+        self.assertEqual(below, found)
 
 
 class Needed(unittest.TestCase):

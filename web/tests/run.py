@@ -121,8 +121,11 @@ def main() -> int:
         begun = [pool.submit(in_browser, BROWSERS[browser], program, pictures, wanted.only)
                  for browser in wanted.browsers]
         found = [browser.result() for browser in begun]
-    failed = sum(counts.failed for counts in found)
-    print(f"{sum(counts.passed for counts in found)} passed, {failed} failed")
+    passed, failed = sum(counts.passed for counts in found), sum(counts.failed for counts in found)
+    if passed + failed == 0:
+        print(f"FAILED no part has the name {wanted.only}")
+        failed = 1
+    print(f"{passed} passed, {failed} failed")
     return 1 if failed else 0
 
 

@@ -22,6 +22,22 @@ POLICY = [
     "img-src data:", "base-uri 'none'", "form-action 'none'",
 ]
 
+PROVED = [
+    "The places drawn are exactly those that the rule gives for the seed.",
+    "No place is drawn twice, and all draws each place once.",
+    "The shares are exact: counted over lists of random words, every list of different places is drawn by equally "
+    "many.",
+    "The first empty line is found, the entrants are counted, and SHA-256 is the stated function.",
+]
+NOT_PROVED = [
+    "That the seed is fair and that nobody knew it. Whoever can choose the seed after the list, or change the list "
+    "after the seed, decides who wins.",
+    "That the list is complete, and nobody is on it twice.",
+    "That all selections come from equally many seeds.",
+    "The JavaScript of this page, which gives the list to the module and shows what it drew,",
+    "That this file is the one that was tested. Whoever gives it to you can change it.",
+]
+
 # A browser does not change what is typed in these fields, and does not suggest what was typed before.
 TYPED = ["list-text", "seed", "count", "check-text"]
 AS_TYPED = {"spellcheck": "false", "autocomplete": "off", "autocapitalize": "off", "autocorrect": "off"}
@@ -76,6 +92,15 @@ def texts(counts: Counts, page: Page, module: str) -> None:
     prose = " ".join(page.browser.run(text, ".prose").split())
     for call in ('lots "4 1 6 3 3 2 5 6" 3 < entrants.txt', "python3 lots.py SEED COUNT < entrants.txt"):
         counts.case(f"how to call {call[:12]}", "" if call in prose else "is missing")
+
+
+def what_is_proved(counts: Counts, page: Page) -> None:
+    """The page claims no more than this, and says what is not proved."""
+    found = page.browser.run("""return Array.from(document.querySelectorAll(".prose .columns ul"), (list) =>
+        Array.from(list.children, (one) => one.textContent.replace(/\\s+/g, " ").trim()));""")
+    counts.same("what is proved", found[:1], [PROVED])
+    counts.same("what is not proved", [text[:len(begin)] for text, begin in zip(found[1], NOT_PROVED)], NOT_PROVED)
+    counts.same("how much is not proved", (len(found), len(found[1])), (2, len(NOT_PROVED)))
 
 
 def descriptions(counts: Counts, page: Page) -> None:
@@ -194,6 +219,7 @@ def run(counts: Counts, page: Page, module: str) -> None:
         part(counts, page)
     page.load()
     texts(counts, page, module)
+    what_is_proved(counts, page)
     descriptions(counts, page)
     loads_nothing(counts, page)
     counts_of_draws(counts, page)

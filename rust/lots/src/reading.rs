@@ -19,3 +19,21 @@ pub fn read_to_end<R: Read>(input: &mut R, list: &mut Vec<u8>) -> Result<usize> 
         }
     }
 }
+
+#[cfg(test)]
+mod tests {
+    use super::read_to_end;
+
+    /// The count is that of the bytes read, whatever the list held before.
+    #[test]
+    fn bytes_are_appended_and_counted() {
+        for size in [0, 1, 16_384, 16_385, 50_000] {
+            let mut list = vec![1; 3];
+            assert_eq!(
+                read_to_end(&mut &vec![2; size][..], &mut list).unwrap(),
+                size
+            );
+            assert_eq!(list, [vec![1; 3], vec![2; size]].concat());
+        }
+    }
+}
