@@ -113,25 +113,6 @@ unsafe_as_the_readme_says() {
     done
 }
 
-# `system::fill` passes no flags to `getrandom`: with one, the call would fail, or return bytes before the system has
-# gathered entropy. A stand-in for the C library's function fills with 7 and refuses flags.
-asks_without_flags() {
-    local folder=target/flags
-    mkdir -p "$folder"
-    printf '%s\n' '#include <string.h>' '#include <sys/types.h>' 'ssize_t getrandom(void *bytes, size_t size, unsigned flags)' \
-        '{ return flags ? -1 : (memset(bytes, 7, size), (ssize_t)size); }' >"$folder/getrandom.c"
-    cc -shared -fPIC -o "$folder/getrandom.so" "$folder/getrandom.c" &&
-        cargo build --quiet --offline -p nanorand-proved &&
-        rustc --edition 2021 -o "$folder/program" --extern nanorand_proved=target/debug/libnanorand_proved.rlib - <<'END' &&
-fn main() {
-    let mut bytes = [0; 300];
-    nanorand_proved::system::fill(&mut bytes).unwrap();
-    assert_eq!(bytes, [7; 300]);
-}
-END
-        env LD_PRELOAD="$PWD/$folder/getrandom.so" "$folder/program"
-}
-
 # Each package has documentation without warnings, also without std.
 documented() {
     local name
@@ -253,11 +234,6 @@ cargo_tests cargo test --offline --no-default-features -p lots
 step library_without_std
 step lots_without_std
 step unsafe_as_the_readme_says
-if [ "$(uname -s)" = Linux ] && available cc gcc; then
-    step asks_without_flags
-else
-    skip 'the flags of getrandom' 'this is no Linux, or there is no cc'
-fi
 step asks_for_what_it_uses
 if [ "$(rustc --version | sed -nE 's/^rustc 1\.([0-9]+)\..*/\1/p')" -ge 78 ]; then
     step hints_at_mistakes
