@@ -65,7 +65,8 @@ const MEANING = " Enough means: at least as many seeds as sets of winners, so th
 
 /** What to add to a seed that is just enough. @param {boolean} isThrown whether there are throws of a die in it */
 function adviceOf(isThrown) {
-  return isThrown ? ` So throw the die at least ${MORE_THROWS} times more than that.` : " So the seed should have 5 bits more than that.";
+  return isThrown ? ` So throw the die at least ${MORE_THROWS} times more than that.`
+    : " So the seed should have 5 bits more than that.";
 }
 
 /** @param {?bigint} seeds @param {bigint} sets @param {string} words */

@@ -12,7 +12,10 @@ const RECORD_START = /^(?:\xef\xbb\xbf)?[\s>]*nanorand public draw/i;
 /** The title of a record in a line of its own, quoted or not. */
 const RECORD_BELOW = /(?:^|\n)[ \t>]*nanorand public draw [12][ \t\r]*\n/;
 
-/** The kind of a text that a file has below other text, as a saved mail has it. @param {Uint8Array} bytes @returns {Kind} */
+/**
+ * The kind of a text that a file has below other text, as a saved mail has it.
+ * @param {Uint8Array} bytes @returns {Kind}
+ */
 export function kindBelow(bytes) {
   if (RECORD_BELOW.test(new TextDecoder("latin1").decode(bytes))) return "record";
   return hasAnnouncementBelow(bytes) ? "announcement" : "list";

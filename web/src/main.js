@@ -97,7 +97,10 @@ async function start() {
 /** What a button prints, while it does so. The browser's own menu prints what the tab shows. */
 let paperAsked;
 
-/** The occasion of the announcement of what is printed, quoted, or an empty text. @type {Record<string, () => string>} */
+/**
+ * The occasion of the announcement of what is printed, quoted, or an empty text.
+ * @type {Record<import("./view.js").Paper, () => string>}
+ */
 const OCCASIONS = { list: occasionOfList, announcement: occasionMade, result: occasionOfResult, check: occasionChecked };
 
 /** Shows what is printed, and the occasion if an announcement says it. @param {import("./view.js").Paper} [paper] */

@@ -132,7 +132,10 @@ function doubledIn(lines, isText) {
   }];
 }
 
-/** Warnings if each line has the same number of columns, as in a CSV file. @param {string[]} lines @param {boolean} isText */
+/**
+ * Warnings if each line has the same number of columns, as in a CSV file.
+ * @param {string[]} lines @param {boolean} isText
+ */
 function columnsIn(lines, isText) {
   const separator = [";", ","].find((sign) => lines.length > 1 && lines.every((line) =>
     line.includes(sign) && !line.includes(`${sign} `) &&
