@@ -76,23 +76,13 @@ mod call {
 #[cfg(any(all(target_os = "linux", target_env = "gnu"), target_os = "android"))]
 mod call {
     use std::io;
-    #[cfg(not(target_os = "android"))]
-    use std::mem::transmute;
-    #[cfg(not(target_os = "android"))]
-    use std::os::raw::c_char;
     use std::os::raw::{c_long, c_uint, c_void};
-    #[cfg(not(target_os = "android"))]
-    use std::ptr::null_mut;
-    #[cfg(not(target_os = "android"))]
-    use std::sync::atomic::{AtomicPtr, Ordering};
 
     pub(super) const MOST: usize = usize::MAX;
 
     pub(super) type GetRandom = unsafe extern "C" fn(*mut c_void, usize, c_uint) -> isize;
 
     extern "C" {
-        #[cfg(not(target_os = "android"))]
-        fn dlsym(library: *mut c_void, name: *const c_char) -> *mut c_void;
         fn syscall(number: c_long, ...) -> c_long;
     }
 
@@ -151,6 +141,15 @@ mod call {
     // Returns the `getrandom` of the C library, or `None` if it has none. It is looked up once.
     #[cfg(not(target_os = "android"))]
     pub(super) fn get_random() -> Option<GetRandom> {
+        use std::mem::transmute;
+        use std::os::raw::c_char;
+        use std::ptr::null_mut;
+        use std::sync::atomic::{AtomicPtr, Ordering};
+
+        extern "C" {
+            fn dlsym(library: *mut c_void, name: *const c_char) -> *mut c_void;
+        }
+
         const NOT_LOOKED_UP: *mut c_void = usize::MAX as *mut c_void;
         static ADDRESS: AtomicPtr<c_void> = AtomicPtr::new(NOT_LOOKED_UP);
         let mut address = ADDRESS.load(Ordering::Acquire);
