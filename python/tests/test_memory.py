@@ -642,7 +642,7 @@ class Changing(unittest.TestCase):
             self.assertEqual(items, [])
 
     def test_an_item_that_draws(self):
-        """Draws that an item makes meanwhile count, even if the call fails. The items stay the same ones."""
+        """If an item draws while a shuffle moves it, no item is lost, even if the shuffle fails."""
         class Draws(list):
             def __getitem__(self, place):
                 self.rng.u64()
