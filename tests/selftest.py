@@ -692,28 +692,59 @@ exit $status
 
 
 def mutants(counts, room):
-    """tools/mutants.py plants both mutants at once, counts each refusal separately, and fails a mutant that passes."""
+    """tools/mutants.py plants both mutants at once, counts each refusal separately, and fails a mutant that passes. A
+    mutant that was refused is tried again only if a file that its check reads has changed."""
     copy_of_repository(room, "tools")
-    texts = {"crates.txt": "low:\n", "crates/low/src/lib.rt": LOW, "bin/rt": RT, "bin/rattle": CHECK}
+    texts = {"crates.txt": "low:\n", "crates/low/src/lib.rt": LOW, "bin/rt": RT, "bin/rattle": CHECK, "KIT-ID": "kit\n"}
     for name, text in texts.items():
         (room / name).parent.mkdir(parents=True, exist_ok=True)
         (room / name).write_text(text, encoding="utf-8")
         (room / name).chmod(0o755)
     (room / "crates/low/mutants").mkdir()
+    edits, calls = room / "crates/low/mutants/lib.edits", room / "calls"
+
+    def tried(*words, **environment):
+        """Tries them. Returns how many checks that takes, and the sum and the status."""
+        calls.write_text("")
+        path = f"{room / 'bin'}:{os.environ['PATH']}"
+        done = ran(["tools/mutants.py", *words], room, PATH=path, CALLS=str(calls), **environment)
+        return len(calls.read_text().splitlines()), done.stdout.splitlines()[-1], done.returncode
+
     for of_one, of_two, clause, checks, wanted in [
         (7, 2, "value", 2, "1 passed, 1 failed"), (7, 7, "value", 3, "2 passed, 0 failed"),
         (1, 7, "value", 2, "1 passed, 1 failed"), (7, 8, "value", 3, "1 passed, 1 failed"),
         (7, 8, "even", 2, "2 passed, 0 failed"), (7, 7, "", 3, "1 passed, 1 failed"),
     ]:
-        edits = [f"mutant {name}, refused at {line}\nold: {old}\nnew: {old[:-1]}{new}\n" for name, line, old, new in
+        texts = [f"mutant {name}, refused at {line}\nold: {old}\nnew: {old[:-1]}{new}\n" for name, line, old, new in
                  [("one", "value", "1 + 0", of_one), ("two", clause, "one() + 1", of_two)]]
-        (room / "crates/low/mutants/lib.edits").write_text("\n".join(edits), encoding="utf-8")
-        calls = room / "calls"
-        calls.write_text("")
-        done = ran(["tools/mutants.py"], room, PATH=f"{room / 'bin'}:{os.environ['PATH']}", CALLS=str(calls))
-        found = len(calls.read_text().splitlines()), done.stdout.splitlines()[-1], done.returncode
+        edits.write_text("\n".join(texts), encoding="utf-8")
         case = f"tools/mutants.py of {of_one} and {of_two}, refused at {clause}"
-        counts.same(case, found, (checks, wanted, int(" 0 failed" not in wanted)))
+        counts.same(case, tried(KEPT=""), (checks, wanted, int(" 0 failed" not in wanted)))
+    kept_mutants(counts, room, tried, texts)
+
+
+def kept_mutants(counts, room, tried, texts):
+    """Mutants that passed are not tried again, until something changes that their check reads. One that failed is."""
+    edits, kept = room / "crates/low/mutants/lib.edits", {"KEPT": str(room / "kept")}
+    both, none = (3, "2 passed, 0 failed", 0), (0, "2 passed, 0 failed", 0)
+    (room / "crates.txt").write_text("under:\nlow: under\n", encoding="utf-8")
+    edits.write_text("\n".join(texts).replace("at \n", "at value\n"), encoding="utf-8")
+    for name in ("", "crates/low/src/lib.rt", "crates/low/specs/Sums.antt", "crates/low/proofs/lemmas/Sums.antt",
+                 "crates/under/src/lib.rt", "crates/under/specs/Sums.antt", "crates.txt", "KIT-ID", "bin/rattle",
+                 "tools/edits.py", "tools/kept.py"):
+        if name:
+            (room / name).parent.mkdir(parents=True, exist_ok=True)
+            with open(room / name, "a", encoding="utf-8") as file:
+                file.write("low: under under\n" if name == "crates.txt" else "\n")
+        found = [tried(**kept), tried(**kept)]
+        counts.same(f"mutants tried twice, after a change of {name or 'nothing'}", found, [both, none])
+    counts.same("mutants with nothing kept", tried(KEPT=""), both)
+    counts.same("mutants without stored answers", tried("--anew", **kept), both)
+    edits.write_text(edits.read_text(encoding="utf-8").replace("one() + 7", "two() + 7"), encoding="utf-8")
+    counts.same("a mutant with another text", tried(**kept), (2, "2 passed, 0 failed", 0))
+    edits.write_text("\n".join(texts), encoding="utf-8")
+    for turn in ("once", "twice"):
+        counts.same(f"a mutant that fails, tried {turn}", tried(**kept), (2, "1 passed, 1 failed", 1))
 
 
 # Definitions and lemmas of a crate, and what each depends on.

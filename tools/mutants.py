@@ -17,6 +17,10 @@ A line for each group has its processor-seconds, and a line for each mutant has 
 The last line is N passed, M failed. If PROVED names a checkout in which rt ci has passed, its libraries are used;
 otherwise each unchanged crate is proved first. LANES is the number of crates that are tried side by side. LOGS names a
 folder for the output of the checks.
+
+What passed is kept on this machine, and not tried again while everything that its check reads stays the same: the kit,
+these scripts, the crate, and the libraries below it. KEPT names the folder for that, by default nanorand/mutants in the
+user's cache; if it is empty, nothing is kept and all mutants are tried.
 """
 
 import os
@@ -32,6 +36,7 @@ from pathlib import Path
 import crates
 from definitions import Definitions, declarations_of
 from edits import all_edits
+from kept import Kept
 from rattle import bare, items_at, text_of
 
 ROOT = Path(__file__).resolve().parent.parent
@@ -92,7 +97,7 @@ class Mutant:
     it."""
 
     def __init__(self, edit):
-        self.crate = edit.crate
+        self.edit, self.crate = edit, edit.crate
         self.name = f"{self.crate.name}/{edit.name}"
         if edit.refused and edit.problem():
             sys.exit(f"tools/mutants.py: {self.name}: {edit.problem()}")
@@ -301,7 +306,19 @@ def is_proved(name):
 
 
 def try_crate(name, mutants):
-    """Tries the mutants of a crate, and returns those that passed and those that failed."""
+    """Tries the mutants of a crate that did not pass before, and returns those that passed and those that failed."""
+    kept = Kept(ROOT / "crates" / name, PROVED, ANEW)
+    before = [one for one in mutants if kept.has(one.edit)]
+    if before:
+        print(f"        {name}, {len(before)} passed in earlier runs of the same files", flush=True)
+    left = [one for one in mutants if one not in before]
+    passed, failed = try_all(name, left) if left else ([], [])
+    kept.add(one.edit for one in passed)
+    return before + passed, failed
+
+
+def try_all(name, mutants):
+    """Tries these mutants of a crate, and returns those that passed and those that failed."""
     if not is_proved(name):
         return [], mutants
     with tempfile.TemporaryDirectory() as room:

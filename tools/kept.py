@@ -1,0 +1,75 @@
+"""Keeps which mutants passed on this machine, so that a later run does not try them again."""
+
+import hashlib
+import os
+import time
+from pathlib import Path
+
+import crates
+
+TOOLS = ("crates.py", "definitions.py", "edits.py", "kept.py", "mutants.py", "rattle.py")
+PARTS = ("src", "specs", "proofs")
+# An entry that was not used for 30 days is removed.
+UNUSED = 30 * 24 * 60 * 60
+
+
+def folder():
+    """The folder of the entries: $KEPT, or else nanorand/mutants in the user's cache. If $KEPT is empty, there is
+    none."""
+    cache = os.environ.get("XDG_CACHE_HOME") or Path.home() / ".cache"
+    named = os.environ.get("KEPT", Path(cache) / "nanorand/mutants")
+    return Path(named) if named else None
+
+
+class Kept:
+    """The mutants of a crate that passed. Each has an entry, which is named by the checksum of all that its check
+    reads: the kit, these scripts, the crate, the libraries below it in the checkout that proved them, whether stored
+    answers are left out, and the mutant itself. If one of these changes, the entry is not found."""
+
+    def __init__(self, crate, proved, anew):
+        self.crate, self.proved, self.anew, self.folder = crate, proved, anew, folder()
+        self.sum = self.current_sum()
+
+    def current_sum(self):
+        """The checksum of what the checks of all mutants of the crate read."""
+        everything, kit = crates.crates(), crates.kit()
+        compiler = (kit / "bin/rattle").stat()
+        digest = hashlib.sha256(repr((self.anew, compiler.st_size, compiler.st_mtime_ns)).encode())
+        digest.update((kit / "KIT-ID").read_bytes())
+        for name in TOOLS:
+            digest.update(Path(__file__).with_name(name).read_bytes())
+        for name in (self.crate.name, *crates.below(self.crate.name, everything)):
+            if name in everything:
+                digest.update(everything[name].line().encode())
+                add_files(digest, self.crate if name == self.crate.name else self.proved / "crates" / name)
+        return digest.hexdigest()
+
+    def entry(self, edit):
+        changes = (self.sum, edit.name, edit.refused, edit.changes)
+        return self.folder / hashlib.sha256(repr(changes).encode()).hexdigest()
+
+    def has(self, edit):
+        """Whether this mutant passed in an earlier run. Its entry then counts as used now."""
+        if self.folder is None:
+            return False
+        try:
+            os.utime(self.entry(edit))
+        except OSError:
+            return False
+        return True
+
+    def add(self, edits):
+        """Keeps that these mutants passed, unless a file changed since this object was made."""
+        if self.folder and self.sum == self.current_sum():
+            self.folder.mkdir(parents=True, exist_ok=True)
+            for edit in edits:
+                self.entry(edit).touch()
+            for path in self.folder.iterdir():
+                if path.stat().st_mtime < time.time() - UNUSED:
+                    path.unlink(missing_ok=True)
+
+
+def add_files(digest, crate):
+    """Adds the names and bytes of what a check of the crate reads."""
+    for path in sorted(path for part in PARTS for path in crate.glob(f"{part}/**/*") if path.is_file()):
+        digest.update(repr((str(path.relative_to(crate)), path.read_bytes())).encode())
