@@ -67,6 +67,27 @@ LAYERS = {
     "hash": r"^impl.* Hash for {0} \{{$",
     "seeds": r"^impl(?:<.*>)? {0} \{{$",
 }
+# What other files have for each generator of the Rust crate, except `ChaChaGroups`: {0} is its name, {1} the same in
+# lower case.
+NAMED = {
+    "crates/nanorand/src/laws.rt": r"ensures \w+_blocks \{{ ⟦<{0}\b.* as Blocks<\d+>>⟧",
+    "crates/nanorand/CONTRACTS.md": r"\(specs/generators/{0}\.antt\)",
+    "rust/nanorand-rand-core/src/lib.rs": r"^impl.* SeedableRng for Core<{0}\b",
+    "c/include/nanorand.hpp": r"^class {0}(?:20)? ",
+    "python/nanorand/_native.pyi": r"^class {0}(?:20)?\(",
+    "docs/PROMISES.md": r"`{0}::rand: bytes, state`",
+    "docs/REFERENCE.md": r"^## {0}$",
+    "README.md": r"^\| `{0}(?:20Stream)?` .*\|.*\|.*\|.*\|$",
+    "python/native/module.c": r"&{1}(?:20)?_spec\b",
+    "python/tests/makers.py": r"^    \"{1}(?:20)?\": {0}",
+    "tests/answers/vectors.py": r"^    \(\"{1}(?:20)?\", .*, \"\w+\"\),$",
+    "tests/answers/definitions.py": r"^    \"{1}(?:20)?\": ",
+    "tests/answers/draw_sums.py": r"\b{0}\(",
+    "c/tests/edges.c": r"^TESTS\({1}(?:20)?, ",
+    "c/tests/items.c": r"^TESTS\({1}(?:20)?, ",
+    "c/tests/numbers.c": r"^TESTS\({1}(?:20)?, ",
+    "c/tests/guards.c": r"^TESTS\({1}(?:20)?, ",
+}
 # The headings of a changelog, after Keep a Changelog 1.1.0.
 CHANGELOGS = "CHANGELOG.md", "rust/nanorand-proved/CHANGELOG.md"
 CHANGELOG_TITLE, CHANGELOG_FIRST = "# Changelog", "## [Unreleased]"
@@ -418,7 +439,8 @@ def trusted_problems():
 
 
 def generator_problems():
-    """Each generator of the Rust crate has its lines in the files of layer/."""
+    """Each generator of the Rust crate has its lines in the files of layer/, and in those of the other languages and in
+    documents."""
     sources = "".join(path.read_text(encoding="utf-8") for path in sorted((ROOT / CRATE / "rand").glob("*.rs")))
     found = re.findall(r"^impl.* Rng<\d+> for (\w+(?:<ROUNDS>)?) \{", sources, re.M)
     generators = [name for name in found if re.search(rf"^pub struct {name.partition('<')[0]}\b", sources, re.M)]
@@ -428,6 +450,10 @@ def generator_problems():
             named = name.replace("Groups", "Stream") if layer == "seeds" else name
             has = re.search(pattern.format(named), read(f"{CRATE}/layer/{layer}.rs"), re.M)
             yield [] if has else [f"{CRATE}/layer/{layer}.rs: it has nothing for {named}"]
+    for path, pattern in NAMED.items():
+        for name in (name.partition("<")[0] for name in generators if name != "ChaChaGroups<ROUNDS>"):
+            has = re.search(pattern.format(name, name.lower()), read(path), re.M)
+            yield [] if has else [f"{path}: it has nothing for {name}"]
 
 
 def main():

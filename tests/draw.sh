@@ -94,8 +94,7 @@ every_request() {
     )"
 }
 
-# Each generator and mode, with many counts of requests. The expected checksum is that of the texts that
-# tests/answers/definitions.py computes.
+# Each generator and mode, with many counts of requests. The expected checksum is computed from the definitions.
 every_number() {
     local zeros seeded mode count sum words=()
     printf -v zeros '%080d' 0
@@ -112,7 +111,7 @@ every_number() {
     sum=$(sha256sum <"$work/out")
     count 'every number of requests' "$(
         differs 'status' "$status" 0
-        differs 'the sum' "${sum%% *}" 190a06571379fb9a13557c75912c6f765456934ddb97a4e9d074648e44e0bfab
+        differs 'the sum' "${sum%% *}" "$(tests/answers/draw_sums.py every_number)"
         differs_in 'standard error' err ''
     )"
 }
@@ -125,7 +124,7 @@ run_many() {
     exec timeout 60 "$work/$compiler" wyrand "$seed" plain 0 "${words[@]}" "$@"
 }
 
-# More than 2^17 requests. The expected checksum is that of the text that tests/answers/definitions.py computes.
+# More than 2^17 requests. The expected checksum is computed from the definitions.
 many_requests() {
     local sum
     begin
@@ -133,7 +132,7 @@ many_requests() {
     sum=$(sha256sum <"$work/out")
     count '131,073 requests' "$(
         differs 'status' "$status" 0
-        differs 'the sum' "${sum%% *}" 626f997b7da7a32d68f0a65ad320ab797a2be0ded27d911614b56bb2cbffff9e
+        differs 'the sum' "${sum%% *}" "$(tests/answers/draw_sums.py many_requests)"
         differs_in 'standard error' err ''
     )"
     begin

@@ -282,7 +282,7 @@ def check(archives: list[str]) -> int:
     wrong = [f"{one.symbol} is not explained" for one in found if not is_explained(one, words)]
     wrong += [f"{symbol} has no version" for symbol in sorted(symbols) if not symbol.startswith(PREFIX)]
     if text != header():
-        wrong.append("c/include/nanorand.h is not what tools/header.py writes")
+        wrong.append("c/include/nanorand.h is not what tools/header.py writes: run it")
     cases = 1 + len(found)
     for archive in archives:
         exported = archived(archive)

@@ -323,7 +323,7 @@ def is_drawn(name, draw):
     try:
         if path.exists() and path.read_text(encoding="utf-8") == draw():
             return True
-        print(f"docs/{name} is not what tools/pictures.py draws")
+        print(f"docs/{name} is not what tools/pictures.py draws: run it")
     except layers.LayersError as error:
         print(error)
     return False

@@ -54,7 +54,7 @@ def main(arguments):
         if not arguments:
             TABLE.write_text(text, encoding="ascii", newline="\n")
         good = TABLE.exists() and TABLE.read_bytes() == text.encode("ascii")
-        checks.append(outcome(f"{TABLE.name} is not what tests/answers/make.py writes", good))
+        checks.append(outcome(f"{TABLE.name} is not what tests/answers/make.py writes: run it", good))
     print(f"{sum(checks)} passed, {checks.count(False)} failed")
     return 0 if all(checks) else 1
 

@@ -1,4 +1,4 @@
-//! Laws of the three generators, in addition to those of every generator. Each contract states a
+//! Laws of the generators, in addition to those of every generator. Each contract states a
 //! law. The functions do nothing; a proof calls one to use its law.
 //!
 //! A word is a random integer of 64 bits, unless its width is given. A draw takes one block of a

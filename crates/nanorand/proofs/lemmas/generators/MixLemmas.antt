@@ -1,12 +1,11 @@
 -- Different numbers give different seeds: the mixing of SplitMix64 can be undone.
-use Rattle.std.proofs.Common.{◌≡◌, ℕ, suc, ◌+◌, ◌-◌, ◌*◌, ◌/◌, ◌%◌, ◌^◌, ◌<◌, ◌≤◌, List, ◌++◌, take, length, [], ◌∷◌, refl, sym, ◌∙◌, ap, arith, lit<, bit_xor, w64}
+use Rattle.std.proofs.Common.{◌≡◌, ℕ, ◌+◌, ◌-◌, ◌*◌, ◌/◌, ◌%◌, ◌^◌, ◌<◌, ◌≤◌, List, ◌++◌, [], ◌∷◌, refl, sym, ◌∙◌, ap, arith, lit<, bit_xor, w64}
 use Rattle.std.specs.Int.{to_le_bytes}
 use Rattle.std.specs.Int.Bits.{xor_assoc, xor_self, xor_zero_l, xor_zero_r}
 use Rattle.std.specs.List.{slice_index}
 use Rattle.std.proofs.lemmas.List.{take_all}
 use Rattle.std.proofs.Math.Nat.{div-div-eq-div-mul, div-eq_of_lt, div-le_self}
 use Rattle.std.proofs.lemmas.Nat.{pow-add, xor_shr, xor_lt, from_le_bytes-to_le_bytes_8}
-use Rattle.nanorand_core.specs.generators.Blocks.{taken}
 use Rattle.nanorand_core.specs.support.BlockLemmas.{taken_more}
 use Rattle.nanorand_core.specs.values.Values.{number_of}
 use Rattle.nanorand.specs.generators.ChaCha.{initial_state, seeded_state}
