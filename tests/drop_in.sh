@@ -182,9 +182,12 @@ if packages nanorand-0.7.0; then
 else
     skip 'the drop-in beside nanorand 0.7.0' 'that crate is not there'
 fi
-if packages flume-0.10. criterion-0.3. rand-0.8. crossbeam-channel-0.5. crossbeam-utils-0.8. async-std-1. \
+if packages flume-0.10. rand-0.8. crossbeam-channel-0.5. crossbeam-utils-0.8. async-std-1. \
     futures-0.3. waker-fn-1. tokio-1.; then
     cp -r "$registry"/flume-0.10.* "$clients/flume"
+    # Without its benchmark, and without criterion, which only that needs.
+    rm -r "$clients/flume/benches"
+    sed -i '/^criterion = /d; /^\[\[bench\]\]/,$d' "$clients/flume/Cargo.toml"
     cargo_tests turns 5 flume --skip send_timeout --skip recv_timeout --skip recv_deadline
     cargo_tests turns 20 flume send_timeout recv_timeout recv_deadline
 else

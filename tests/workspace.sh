@@ -162,10 +162,11 @@ packs_what_it_should() {
 }
 
 # Runs cargo's tests, and records in this target folder which code they run. If the tools of the compiler's LLVM are not
-# there, it only runs the tests.
+# there, it only runs the tests. Tests in one thread do not wait for each other's counters, which saves a third of the
+# processor time.
 covered() {
     if tools/uncovered.py --tools >/dev/null; then
-        cargo_tests env RUSTFLAGS=-Cinstrument-coverage LLVM_PROFILE_FILE="$1/profiles/%m-%p.profraw" \
+        cargo_tests env RUST_TEST_THREADS=1 RUSTFLAGS=-Cinstrument-coverage LLVM_PROFILE_FILE="$1/profiles/%m-%p.profraw" \
             cargo test --offline --target-dir "$1" "${@:2}"
     else
         cargo_tests cargo test --offline "${@:2}"
