@@ -16,7 +16,7 @@ import header
 
 # The sources are read once.
 ITEMS_AT = functools.cache(header.items_at)
-WRONG = "c/include/nanorand.h is not what tools/header.py writes"
+WRONG = "c/include/nanorand.h is not what tools/header.py writes: run it"
 # What nm prints of two objects, with the options that `archived` gives it.
 LISTED = """
 liba.a[one.o]:
