@@ -15,6 +15,7 @@ import shutil
 import subprocess
 import sys
 import tempfile
+import time
 from itertools import islice
 from pathlib import Path
 from unittest import mock
@@ -747,7 +748,13 @@ def kept_mutants(counts, room, tried, texts):
         found = [tried(**kept), tried(**kept)]
         counts.same(f"mutants tried twice, after a change of {name or 'nothing'}", found, [both, none])
     counts.same("mutants with nothing kept", tried(KEPT=""), both)
+    counts.same("mutants that cannot be kept", tried(KEPT=str(room / "KIT-ID" / "kept")), both)
+    ages = {room / "kept/used": 29, room / "kept/unused": 31}
+    for path, days in ages.items():
+        path.touch()
+        os.utime(path, times=(time.time() - days * 24 * 60 * 60,) * 2)
     counts.same("mutants without stored answers", tried("--anew", **kept), both)
+    counts.same("what was unused for a month", [path.exists() for path in ages], [True, False])
     edits.write_text(edits.read_text(encoding="utf-8").replace("one() + 7", "two() + 7"), encoding="utf-8")
     counts.same("a mutant with another text", tried(**kept), (2, "2 passed, 0 failed", 0))
     edits.write_text("\n".join(texts), encoding="utf-8")

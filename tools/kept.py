@@ -1,5 +1,6 @@
 """Keeps which mutants passed on this machine, so that a later run does not try them again."""
 
+import contextlib
 import hashlib
 import os
 import time
@@ -60,13 +61,21 @@ class Kept:
 
     def add(self, edits):
         """Keeps that these mutants passed, unless a file changed since this object was made."""
-        if self.folder and self.sum == self.current_sum():
+        if self.folder is None or self.sum != self.current_sum():
+            return
+        try:
             self.folder.mkdir(parents=True, exist_ok=True)
             for edit in edits:
                 self.entry(edit).touch()
-            for path in self.folder.iterdir():
+            self.remove_unused()
+        except OSError as error:
+            print(f"note: what passed is not kept: {error}", flush=True)
+
+    def remove_unused(self):
+        for path in self.folder.iterdir():
+            with contextlib.suppress(FileNotFoundError):
                 if path.stat().st_mtime < time.time() - UNUSED:
-                    path.unlink(missing_ok=True)
+                    path.unlink()
 
 
 def add_files(digest, crate):
