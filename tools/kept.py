@@ -23,9 +23,10 @@ def folder():
 
 
 class Kept:
-    """The mutants of a crate that passed. Each has an entry, which is named by the checksum of all that its check
-    reads: the kit, these scripts, the crate, the libraries below it in the checkout that proved them, whether stored
-    answers are left out, and the mutant itself. If one of these changes, the entry is not found."""
+    """The mutants of a crate that passed. Each has an entry, which is named by the checksum of what its check depends
+    on: the kit (by its name and compiler), these scripts, the sources of the crate and, in the checkout that proved
+    them, of the libraries below it, whether stored answers are left out, and the mutant itself. If one of these
+    changes, the entry is not found."""
 
     def __init__(self, crate, proved, anew):
         self.crate, self.proved, self.anew, self.folder = crate, proved, anew, folder()

@@ -134,20 +134,26 @@ def quarter_round(words, a, b, c, d):
         words[mixed] = (word << bits | word >> 32 - bits) % 2**32
 
 
-class Stream:
-    """ChaCha20's keystream without gaps. Its state is ChaCha's, followed by the 0 to 63 buffered bytes."""
+class Buffered:
+    """A generator without gaps: what a request leaves of its last block is delivered first by the next one."""
 
-    PERIOD = 2**67
-
-    def __init__(self, state):
-        self.inner = ChaCha(state[:48], 20)
-        self.rest = state[48:]
+    def __init__(self, inner, rest=b""):
+        self.inner, self.rest = inner, rest
 
     def request(self, length):
         while len(self.rest) < length:
             self.rest += self.inner.draw()
         taken, self.rest = self.rest[:length], self.rest[length:]
         return taken
+
+
+class Stream(Buffered):
+    """ChaCha20's keystream without gaps. Its state is ChaCha's, followed by the 0 to 63 buffered bytes."""
+
+    PERIOD = 2**67
+
+    def __init__(self, state):
+        super().__init__(ChaCha(state[:48], 20), state[48:])
 
     def jump(self, draws):
         """One draw is eight bytes. No block is computed unless some of its bytes stay buffered."""

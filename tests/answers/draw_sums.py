@@ -8,7 +8,7 @@
 import hashlib
 import sys
 
-from definitions import ChaCha, Pcg64, WyRand
+from definitions import Buffered, ChaCha, Pcg64, WyRand
 
 SEED, ZEROS = bytes.fromhex("d29b42879be2895f"), bytes(48)
 GENERATORS = [
@@ -18,19 +18,6 @@ GENERATORS = [
 ]
 SIZES = [1, 2, 4, 8] * 1250
 COUNTS = [*range(41), 63, 64, 65, 127, 128, 129, 255, 256, 257, 1000, 4096, 5000]
-
-
-class Buffered:
-    """The mode `buffered`: what a request leaves of its last block is delivered first by the next one."""
-
-    def __init__(self, inner):
-        self.inner, self.rest = inner, b""
-
-    def request(self, length):
-        while len(self.rest) < length:
-            self.rest += self.inner.draw()
-        taken, self.rest = self.rest[:length], self.rest[length:]
-        return taken
 
 
 def lines_of(rng, sizes):
