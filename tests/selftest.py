@@ -298,7 +298,8 @@ def sums(counts, room):
     """Each part is called, and the sum counts how it ends."""
     calls_of_whole(room)
     made, lines, status = whole(room, "none", "", 0)
-    names = {f"tests/{path.name}" for path in (ROOT / "tests").iterdir() if path.name not in NO_PARTS}
+    files = [path.name for path in (ROOT / "tests").iterdir() if path.is_file()]
+    names = {f"tests/{name}" for name in files if name not in NO_PARTS}
     # The parts that test both what the kit and what cargo builds run once for each.
     by_library = {"tests/c.sh", "tests/draw.sh", "tests/lots.sh", "tests/python.sh"}
     parts = names - by_library | {f"{name} {library}" for name in by_library for library in ("cargo", "kit")}
@@ -396,6 +397,7 @@ def crate(counts, room):
     std = room / "lib/rustlib/x86_64-unknown-linux-gnu/lib/libstd-1.rlib"
     std.parent.mkdir(parents=True)
     std.touch()
+    (room / "target").mkdir()  # which cargo makes
     made, last, status = crate_tested(room, 0, "")
     counts.same("tests/workspace.sh passes", (bool(re.fullmatch(r"\d+ passed, 0 failed", last)), status), (True, 0))
     for number, call in enumerate(made, 1):
