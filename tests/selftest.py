@@ -719,7 +719,7 @@ def mutants(counts, room):
         calls.write_text("")
         path = f"{room / 'bin'}:{os.environ['PATH']}"
         done = ran(["tools/mutants.py", *words], room, PATH=path, CALLS=str(calls), **environment)
-        return len(calls.read_text().splitlines()), done.stdout.splitlines()[-1], done.returncode
+        return len(calls.read_text().splitlines()), (done.stdout.splitlines() or [""])[-1], done.returncode
 
     for of_one, of_two, clause, checks, wanted in [
         (7, 2, "value", 2, "1 passed, 1 failed"), (7, 7, "value", 3, "2 passed, 0 failed"),
@@ -735,7 +735,8 @@ def mutants(counts, room):
 
 
 def kept_mutants(counts, room, tried, texts):
-    """Mutants that passed are not tried again, until something changes that their check reads. One that failed is."""
+    """Mutants that passed are not tried again, until something changes that their check reads: on this machine, or on
+    any machine if they are recorded. One that failed is."""
     edits, kept = room / "crates/low/mutants/lib.edits", {"KEPT": str(room / "kept")}
     both, none = (3, "2 passed, 0 failed", 0), (0, "2 passed, 0 failed", 0)
     (room / "crates.txt").write_text("under:\nlow: under\n", encoding="utf-8")
@@ -749,7 +750,18 @@ def kept_mutants(counts, room, tried, texts):
                 file.write("low: under under\n" if name == "crates.txt" else "\n")
         found = [tried(**kept), tried(**kept)]
         counts.same(f"mutants tried twice, after a change of {name or 'nothing'}", found, [both, none])
+        found = [tried(KEPT=""), tried("--record", KEPT=""), tried(KEPT="")]
+        counts.same(f"mutants recorded, after a change of {name or 'nothing'}", found, [both, both, none])
+    counts.same("mutants with a record, and all", tried("--all", **kept), both)
+    for name in ("low/one", "low/two"):
+        counts.same(f"{name} by its name, with a record", tried(name, **kept), (2, "1 passed, 0 failed", 0))
+    (room / "crates/low/mutants/passed.txt").unlink()
     counts.same("mutants with nothing kept", tried(KEPT=""), both)
+    counts.same("one of the mutants", tried("--record", "low/one", KEPT=""), (2, "1 passed, 0 failed", 0))
+    counts.same("and no record of it", tried(KEPT=""), both)
+    for words in (["--al"], ["--all", "--record"]):
+        checks, last, status = tried(*words)
+        counts.same(f"options {words}", (checks, last.startswith("Tries mutants: "), status), (0, True, 1))
     counts.same("mutants that cannot be kept", tried(KEPT=str(room / "KIT-ID" / "kept")), both)
     ages = {room / "kept/used": 29, room / "kept/unused": 31}
     for path, days in ages.items():
@@ -762,6 +774,8 @@ def kept_mutants(counts, room, tried, texts):
     edits.write_text("\n".join(texts), encoding="utf-8")
     for turn in ("once", "twice"):
         counts.same(f"a mutant that fails, tried {turn}", tried(**kept), (2, "1 passed, 1 failed", 1))
+    counts.same("a mutant that fails is not recorded", tried("--record", **kept), (2, "1 passed, 1 failed", 1))
+    counts.same("nor has it a record", (room / "crates/low/mutants/passed.txt").exists(), False)
 
 
 # Definitions and lemmas of a crate, and what each depends on.

@@ -9,6 +9,7 @@ import json
 import re
 import tomllib
 from dataclasses import dataclass
+from functools import cached_property
 
 # The item of a row for a whole file.
 WHOLE_FILE = ""
@@ -26,7 +27,7 @@ class Row:
     def get(self, key):
         return self.values.get(key, "")
 
-    @property
+    @cached_property
     def key(self):
         return self.kind, self.get("file"), self.get("item")
 

@@ -1,4 +1,5 @@
-"""Keeps which mutants passed on this machine, so that a later run does not try them again."""
+"""Says which mutants passed before, so that a later run does not try them again: those of a crate in its record, which
+is committed, and single ones in a folder of this machine."""
 
 import contextlib
 import hashlib
@@ -7,9 +8,13 @@ import time
 from pathlib import Path
 
 import crates
+from edits import edits_of
 
 TOOLS = ("crates.py", "definitions.py", "edits.py", "kept.py", "mutants.py", "rattle.py")
 PARTS = ("src", "specs", "proofs")
+# The record of a crate, in its folder.
+RECORD = "mutants/passed.txt"
+HEAD = "# Written by `tools/mutants.py --record`. While the sum fits, the mutants are not tried again.\n"
 # An entry that was not used for 30 days is removed.
 UNUSED = 30 * 24 * 60 * 60
 
@@ -24,9 +29,9 @@ def folder():
 
 class Kept:
     """The mutants of a crate that passed. Each has an entry, which is named by the checksum of what its check depends
-    on: the kit (by its name and compiler), these scripts, the sources of the crate and, in the checkout that proved
-    them, of the libraries below it, whether stored answers are left out, and the mutant itself. If one of these
-    changes, the entry is not found."""
+    on: the kit (by its name and the size of its compiler), these scripts, the sources of the crate and, in the checkout
+    that proved them, of the libraries below it, whether stored answers are left out, and the mutant itself. If one of
+    these changes, the entry is not found. The record has the checksum of the entries of all mutants of the crate."""
 
     def __init__(self, crate, proved, anew):
         self.crate, self.proved, self.anew, self.folder = crate, proved, anew, folder()
@@ -36,7 +41,7 @@ class Kept:
         """The checksum of what the checks of all mutants of the crate read."""
         everything, kit = crates.crates(), crates.kit()
         compiler = (kit / "bin/rattle").stat()
-        digest = hashlib.sha256(repr((self.anew, compiler.st_size, compiler.st_mtime_ns)).encode())
+        digest = hashlib.sha256(repr((self.anew, compiler.st_size)).encode())
         digest.update((kit / "KIT-ID").read_bytes())
         for name in TOOLS:
             digest.update(Path(__file__).with_name(name).read_bytes())
@@ -47,15 +52,30 @@ class Kept:
         return digest.hexdigest()
 
     def entry(self, edit):
+        """The name of a mutant's entry."""
         changes = (self.sum, edit.name, edit.refused, edit.changes)
-        return self.folder / hashlib.sha256(repr(changes).encode()).hexdigest()
+        return hashlib.sha256(repr(changes).encode()).hexdigest()
+
+    def record(self):
+        """The record that all mutants of the crate passed."""
+        entries = [self.entry(edit) for edit in edits_of(self.crate)]
+        return f"{HEAD}{len(entries)} mutants, sum {hashlib.sha256(repr(entries).encode()).hexdigest()}\n"
+
+    def is_recorded(self):
+        path = self.crate / RECORD
+        return path.is_file() and path.read_text(encoding="utf-8") == self.record()
+
+    def write_record(self):
+        """Writes the record, unless a file changed since this object was made."""
+        if self.sum == self.current_sum():
+            (self.crate / RECORD).write_text(self.record(), encoding="utf-8")
 
     def has(self, edit):
         """Whether this mutant passed in an earlier run. Its entry then counts as used now."""
         if self.folder is None:
             return False
         try:
-            os.utime(self.entry(edit))
+            os.utime(self.folder / self.entry(edit))
         except OSError:
             return False
         return True
@@ -67,7 +87,7 @@ class Kept:
         try:
             self.folder.mkdir(parents=True, exist_ok=True)
             for edit in edits:
-                self.entry(edit).touch()
+                (self.folder / self.entry(edit)).touch()
             self.remove_unused()
         except OSError as error:
             print(f"note: what passed is not kept: {error}", flush=True)

@@ -1,5 +1,5 @@
 #!/usr/bin/env python3
-"""Tries the mutants: tools/mutants.py [--anew] [CRATE | CRATE/NAME]..; without names, all of them.
+"""Tries mutants: tools/mutants.py [--all | --anew | --record] [CRATE | CRATE/NAME]..; without names, all of them.
 
 For example, tools/mutants.py nanorand_core. edits.py describes how a mutant is written, and what has to refuse it.
 A stored answer that no longer fits refuses a mutant, even if the clause has another proof. --anew leaves out the stored
@@ -18,9 +18,11 @@ The last line is N passed, M failed. If PROVED names a checkout in which rt ci h
 otherwise each unchanged crate is proved first. LANES is the number of crates that are tried side by side. LOGS names a
 folder for the output of the checks.
 
-What passed is kept on this machine, and not tried again while everything that its check reads stays the same: the kit,
-these scripts, the crate, and the libraries below it. KEPT names the folder for that, by default nanorand/mutants in the
-user's cache; if it is empty, nothing is kept and all mutants are tried.
+What passed is not tried again while everything that its check reads stays the same: the kit, these scripts, the crate,
+and the libraries below it. Mutants that are named are tried nevertheless, and --all tries all. --record writes, for
+each crate whose mutants all passed, the record mutants/passed.txt, which is committed, so that other machines do not
+try them again either. Single mutants are kept on this machine: KEPT names the folder, by default nanorand/mutants in
+the user's cache; if it is empty, none is kept.
 """
 
 import os
@@ -36,7 +38,7 @@ from pathlib import Path
 import crates
 from definitions import Definitions, declarations_of
 from edits import all_edits
-from kept import Kept
+from kept import RECORD, Kept
 from rattle import bare, items_at, text_of
 
 ROOT = Path(__file__).resolve().parent.parent
@@ -44,7 +46,9 @@ PROVED = Path(os.environ.get("PROVED", ROOT))
 KIT = crates.kit()
 LANES = int(os.environ.get("LANES", "1"))
 
-ANEW = "--anew" in sys.argv[1:]
+OPTIONS = {word for word in sys.argv[1:] if word.startswith("--")}
+NAMES = [word for word in sys.argv[1:] if not word.startswith("--")]
+ANEW = "--anew" in OPTIONS
 
 VERDICT = re.compile(r"^fn (\S+): (.*)$", re.M)
 PASSED, FAILED, AGAIN = "", "FAILED ", "again: "
@@ -305,15 +309,27 @@ def is_proved(name):
     return proved
 
 
+def passed_before(kept, mutants):
+    """Those of a crate's mutants that passed before, with the same files, and are not named themselves."""
+    if "--all" in OPTIONS:
+        return []
+    is_recorded = kept.is_recorded()
+    before = [one for one in mutants if one.name not in NAMES and (is_recorded or kept.has(one.edit))]
+    if before:
+        where = f"as {RECORD} says" if is_recorded else "on this machine"
+        print(f"        {kept.crate.name}, {len(before)} passed before with the same files, {where}", flush=True)
+    return before
+
+
 def try_crate(name, mutants):
     """Tries the mutants of a crate that did not pass before, and returns those that passed and those that failed."""
     kept = Kept(ROOT / "crates" / name, PROVED, ANEW)
-    before = [one for one in mutants if kept.has(one.edit)]
-    if before:
-        print(f"        {name}, {len(before)} passed in earlier runs of the same files", flush=True)
+    before = passed_before(kept, mutants)
     left = [one for one in mutants if one not in before]
     passed, failed = try_all(name, left) if left else ([], [])
     kept.add(one.edit for one in passed)
+    if "--record" in OPTIONS and not failed and name in (NAMES or [name]):
+        kept.write_record()
     return before + passed, failed
 
 
@@ -346,9 +362,10 @@ def chosen(names):
 
 
 def main():
+    if len(OPTIONS) > 1 or not OPTIONS <= {"--all", "--anew", "--record"}:
+        sys.exit(__doc__.partition("\n")[0])
     with ThreadPoolExecutor(LANES) as pool:
-        names = [word for word in sys.argv[1:] if word != "--anew"]
-        tried = list(pool.map(lambda one: try_crate(*one), chosen(names).items()))
+        tried = list(pool.map(lambda one: try_crate(*one), chosen(NAMES).items()))
     failed = [one.name for _, wrong in tried for one in wrong]
     for name in failed:
         print(f"FAILED {name}")

@@ -3,12 +3,14 @@
 
 use std::fmt::{Debug, Display};
 
+/// A value with both texts. A test of many types passes such values, so that the calls of `format!`
+/// below are compiled once, and not for each type.
+pub trait Texts: Debug + Display {}
+
+impl<T: Debug + Display> Texts for T {}
+
 /// Checks that format options change neither text of the value. `options` are a width and a precision.
-pub fn has_texts<T: Debug + Display + ?Sized>(
-    value: &T,
-    [debug, display]: [&str; 2],
-    options: [usize; 2],
-) {
+pub fn has_texts(value: &dyn Texts, [debug, display]: [&str; 2], options: [usize; 2]) {
     let [width, precision] = options;
     let debugs = [
         format!("{value:?}"),
@@ -29,11 +31,11 @@ pub fn has_texts<T: Debug + Display + ?Sized>(
     for (number, text) in debugs.iter().enumerate() {
         assert_eq!(text, debug, "{number}: {width} {precision}");
     }
-    is_displayed(value, display, options);
+    is_displayed(&value, display, options);
 }
 
 /// Checks this only for `Display`.
-pub fn is_displayed<T: Display + ?Sized>(value: &T, display: &str, options: [usize; 2]) {
+pub fn is_displayed(value: &dyn Display, display: &str, options: [usize; 2]) {
     let [width, precision] = options;
     let displays = [
         format!("{value}"),

@@ -1,7 +1,7 @@
 //! No call fails without a cause, and none changes what it should not. The sizes, seeds, rounds and
 //! format options are spread over all possible ones. No clause of the proved source states this.
 
-use crate::common::formats::has_texts;
+use crate::common::formats::{has_texts, Texts};
 use crate::common::{ByteScript, Pieces, Rising};
 use nanorand_proved::choices::choose_mut;
 use nanorand_proved::entropy::{system, EntropyError};
@@ -115,22 +115,22 @@ fn options(rng: &mut WyRand) -> [usize; 2] {
 /// A `ChaCha` with these rounds is made from the reader's bytes. It and its groups have the right
 /// texts at any counter.
 fn chacha_is_made_and_has_texts<const ROUNDS: u8>(rng: &mut WyRand, source: &mut Pieces) {
-    let made = ChaCha::<ROUNDS>::new(source);
-    assert!(made.is_ok(), "{ROUNDS}");
+    assert!(ChaCha::<ROUNDS>::new(source).is_ok(), "{ROUNDS}");
     let counter = word(rng);
-    let state = format!("{{ rounds: {ROUNDS}, counter: {counter} }}");
-    let texts = [
-        &*format!("ChaCha20 {state}"),
-        &format!("ChaCha ({ROUNDS} rounds)"),
-    ];
     let generator = ChaCha::<ROUNDS>::at([0; 32], [0; 8], counter);
-    has_texts(&generator, texts, options(rng));
-    let texts = [
-        &*format!("ChaChaGroups {state}"),
-        &format!("ChaCha ({ROUNDS} rounds, by groups)"),
-    ];
-    let generator = ChaChaGroups::<ROUNDS>::at([0; 32], [0; 8], counter);
-    has_texts(&generator, texts, options(rng));
+    let groups = ChaChaGroups::<ROUNDS>::at([0; 32], [0; 8], counter);
+    chacha_has_texts(rng, [&generator, &groups], ROUNDS, counter);
+}
+
+fn chacha_has_texts(rng: &mut WyRand, made: [&dyn Texts; 2], rounds: u8, counter: u64) {
+    let [generator, groups] = made;
+    let state = format!("{{ rounds: {rounds}, counter: {counter} }}");
+    let debug = format!("ChaCha20 {state}");
+    let display = format!("ChaCha ({rounds} rounds)");
+    has_texts(generator, [&debug, &display], options(rng));
+    let debug = format!("ChaChaGroups {state}");
+    let display = format!("ChaCha ({rounds} rounds, by groups)");
+    has_texts(groups, [&debug, &display], options(rng));
 }
 
 /// The same for each of these numbers of rounds.

@@ -1,6 +1,6 @@
 //! The texts of generators and errors.
 
-use crate::common::formats;
+use crate::common::formats::{self, Texts};
 use nanorand_proved::buffer::{RestTooLong, TextRefused};
 use nanorand_proved::choices::weighted::WeightError;
 use nanorand_proved::entropy::EntropyError;
@@ -9,10 +9,9 @@ use nanorand_proved::shuffles::NotArrangement;
 use nanorand_proved::{BufferedRng, PastPeriod, RangeError, Rng, WyRand};
 use nanorand_proved::{ChaCha, ChaCha12, ChaCha12Stream, ChaCha20, ChaCha8, Pcg64};
 use std::error::Error;
-use std::fmt::{Debug, Display};
 
 /// Asserts that the value has these texts, whatever the format options are.
-fn has_texts<T: Debug + Display + ?Sized>(value: &T, debug: &str, display: &str) {
+fn has_texts(value: &dyn Texts, debug: &str, display: &str) {
     formats::has_texts(value, [debug, display], [200, 3]);
 }
 
@@ -229,9 +228,9 @@ fn of_errors() {
         ),
     ];
     for (error, debug, display) in rows {
-        has_texts(error, debug, display);
+        has_texts(&error, debug, display);
         for width in 0..=100 {
-            formats::has_texts(error, [debug, display], [width, 100 - width]);
+            formats::has_texts(&error, [debug, display], [width, 100 - width]);
         }
         assert!(error.source().is_none());
     }
