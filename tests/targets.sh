@@ -77,7 +77,7 @@ run_program() {
 # The unit tests of simd.rs and system.rs, without one that asks for more memory than qemu may have.
 run_unit_tests() {
     step compile "$1" -C "linker=$2" --crate-name unit_tests --test --cfg 'feature="std"' src/lib.rs || return
-    cargo_tests timeout 600 "${@:3}" "$out/$1/unit_tests" --test-threads=1 simd:: system:: \
+    cargo_tests timeout 600 env NANORAND_STATES=1000 "${@:3}" "$out/$1/unit_tests" --test-threads=1 simd:: system:: \
         --skip more_than_4_gibibytes
 }
 

@@ -207,18 +207,15 @@ fn all_numbers_of_items() {
     let mut rng = WyRand::new_seed(2);
     for size in 0..=1000 {
         let count = u64::try_from(size).expect("a count");
-        for others in 0..4 {
-            let drawn = (0..others).map(|_| REQUESTS[rng.range(0..REQUESTS.len())]);
-            let mut requests: Vec<(&str, Call)> = drawn.collect();
-            requests.insert(rng.range(0..=others), ("shuffle", Call::Shuffle));
-            let (words, calls): (Vec<&str>, Vec<Call>) = requests.into_iter().unzip();
-            for number in generators_for(size, &mut rng) {
-                let (start, text) = command_of(number, 7, &calls, count);
-                writes(
-                    &words_of(&format!("{start} {count} {}", words.join(" "))),
-                    &text,
-                );
-            }
+        let others = size % 4;
+        let drawn = (0..others).map(|_| REQUESTS[rng.range(0..REQUESTS.len())]);
+        let mut requests: Vec<(&str, Call)> = drawn.collect();
+        requests.insert(rng.range(0..=others), ("shuffle", Call::Shuffle));
+        let (words, calls): (Vec<&str>, Vec<Call>) = requests.into_iter().unzip();
+        for number in generators_for(size, &mut rng) {
+            let (start, text) = command_of(number, 7, &calls, count);
+            let arguments = words_of(&format!("{start} {count} {}", words.join(" ")));
+            writes(&arguments, &text);
         }
     }
 }
