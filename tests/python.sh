@@ -358,9 +358,11 @@ if [ -x "$system" ] && can_build "$system"; then
     available '/usr/lib/python3/dist-packages/numpy' python3-numpy || true
     step "$system" python/build.py "$work/system/one"
     step environment "$system" "$work/system/env" "$work/system/one" --system-site-packages
+    export NANORAND_SHORT=1
     unit_tests "python/tests by the system's Python" in_tests "$work/system/env/bin/python"
     numpys_own "$work/system/env"
     counted
+    unset NANORAND_SHORT
 else
     skip "the package by the system's Python" "it has no venv or no Python.h"
 fi

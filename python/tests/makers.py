@@ -62,6 +62,12 @@ class Index:
         return not self.number
 
 
+def once_for_each_library(test):
+    """For a long test of what the library answers. `tests/python.sh` sets NANORAND_SHORT where it runs the tests again,
+    with another build of the module over the same library. Then it leaves these out."""
+    return None if "NANORAND_SHORT" in os.environ else test
+
+
 def generators():
     """One generator of each class, and two more streams, with no and with the maximum of buffered bytes."""
     return [

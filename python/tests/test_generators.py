@@ -9,7 +9,18 @@ import threading
 import unittest
 from unittest import mock
 
-from makers import CHACHAS, CLASSES, COPIES, KEY, NONCE, Index, generators, refuses, views_of
+from makers import (
+    CHACHAS,
+    CLASSES,
+    COPIES,
+    KEY,
+    NONCE,
+    Index,
+    generators,
+    once_for_each_library,
+    refuses,
+    views_of,
+)
 
 from nanorand import (
     ChaCha8,
@@ -654,6 +665,7 @@ class Lists(unittest.TestCase):
                     error = refuses(self, rng, KeyError, lambda rng: rng.shuffle(given))
                     self.assertEqual((error.args, given), ((at,), places[:at] + list(range(at, length))))
 
+    @once_for_each_library
     def test_long_shuffles_are_those_of_the_library(self):
         """Of lists, which make steps of their own above a length, and of other sequences, which hold the same items."""
         for kind in CLASSES.values():
@@ -733,6 +745,7 @@ class Lists(unittest.TestCase):
                     self.assertEqual(rng.sample_below(count, length), list(wanted), (length, count))
                     self.assertEqual(rng, same)
 
+    @once_for_each_library
     def test_samples_in_pieces(self):
         """The first places of a sample are themselves a sample: of fewer numbers, less one for each place left out."""
         for rng in (WyRand(5), Stream(bytes(32))):
