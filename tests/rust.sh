@@ -32,6 +32,7 @@ aarch64-linux-gnu-gcc gcc-aarch64-linux-gnu
 s390x-linux-gnu-gcc gcc-s390x-linux-gnu
 qemu-arm qemu-user
 rust-lld lld
+node nodejs
 END
     [ "${CI:-}" != true ] || std_of_other_architectures "$work/std" >/dev/null 2>&1
     export NANORAND_STD=$work/std/usr/lib/rustlib
