@@ -143,7 +143,8 @@ def frame(counts: Counts, page: Page) -> None:
 
 
 def fields(counts: Counts, page: Page) -> None:
-    read = "return document.getElementById(arguments[0]).getAttribute(arguments[1]);"
+    # `autocapitalize` has two words for the same, and Firefox 140 reads `none` for `off`.
+    read = "return document.getElementById(arguments[0]).getAttribute(arguments[1])?.replace('none', 'off');"
     for field in TYPED:
         counts.same(f"{field} as typed", {name: page.browser.run(read, field, name) for name in AS_TYPED}, AS_TYPED)
     tag = page.browser.run('return document.getElementById("record").tagName;')
