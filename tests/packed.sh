@@ -68,8 +68,7 @@ step packs --offline --workspace --exclude nanorand-answers
 step put_into_the_registry
 # Skipped, because they are slow without optimization: the sweeps, and the lists of all sizes of the programs.
 tests_alone nanorand-proved -- --skip sweeps::
-# Without std, the library finds the processor's vectors by itself, and is otherwise the same.
-tests_alone nanorand-proved --no-default-features --lib --test chacha_lanes --test streams
+tests_alone nanorand-proved --no-default-features --lib --tests -- --skip sweeps::
 for name in nanorand-program lots draw; do
     tests_alone "$name" -- --skip all_
 done

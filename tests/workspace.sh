@@ -227,10 +227,8 @@ else
 fi
 all_covered "$coverage" "${sources[@]}"
 cargo_tests cargo test --offline --workspace --doc
-# In optimized code: all answers, all that differs between processors, and a million states for each vector body that
-# this machine has. The other tests take a minute and a half to optimize, and show the same of it as without.
-cargo_tests env NANORAND_STATES=1000000 cargo test --offline --release -p nanorand-proved -p nanorand-answers \
-    --lib --test answers --test chacha_lanes --test streams --test refused
+# A million states for each vector body that this machine has.
+cargo_tests env NANORAND_STATES=1000000 cargo test --offline --release -p nanorand-proved -p nanorand-answers
 cargo_tests cargo test --offline --no-default-features --doc -p nanorand-proved
 step cargo check --offline --no-default-features --all-targets -p nanorand-proved
 cargo_tests cargo test --offline --no-default-features -p lots

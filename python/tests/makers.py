@@ -63,8 +63,8 @@ class Index:
 
 
 def once_for_each_library(test):
-    """For a long test of what the library answers. `tests/python.sh` sets NANORAND_SHORT where it runs the tests again,
-    with another build of the module over the same library. Then it leaves these out."""
+    """Marks a long test of what calls answer. `tests/python.sh` runs it once over each library: it sets NANORAND_SHORT
+    for its runs by the system's Python, which leave the test out."""
     return None if "NANORAND_SHORT" in os.environ else test
 
 

@@ -21,7 +21,7 @@ try:
 except ImportError:
     _testcapi = None
 
-from makers import CLASSES, KEY, NONCE, RANDOMS, generators, once_for_each_library
+from makers import CLASSES, KEY, NONCE, RANDOMS, generators
 
 from nanorand import ChaCha8, Generator, Pcg64, Stream, WyRand, _native, lots
 from nanorand.randoms import WyRandRandom
@@ -340,7 +340,6 @@ class Leaks(unittest.TestCase):
                 with self.subTest(name="draw", kind=type(text).__name__):
                     self.keeps_nothing(refused, lots.draw, seed, text)
 
-    @once_for_each_library
     def test_long_memory(self):
         """Arrays that are too large for Python's own allocator, measured by the memory of the process."""
         rng, items, buffer = WyRand(5), list(range(50_000)), bytearray(400_000)

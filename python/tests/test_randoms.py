@@ -63,8 +63,8 @@ class Unseeded:
         return super().getstate(), self.kept
 
     def setstate(self, state):
-        own, self.kept = state
-        super().setstate(own)
+        inherited, self.kept = state
+        super().setstate(inherited)
 
 
 # A subclass of each class, in this module, where pickles find them.
