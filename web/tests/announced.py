@@ -5,7 +5,7 @@ from pathlib import Path
 from typing import List
 
 from announcements import EXAMPLE, KNOWN, LIST, SAMPLE, SEED, with_text, without_marks
-from announcing import FIELDS, begun, pressed, put, saved, saved_file, seen
+from announcing import FIELDS, begun, pressed, saved, saved_file, seen
 from counts import Counts, lots, sha256
 from page import Page
 from records import END, record_of
@@ -72,7 +72,7 @@ def whole_way(counts: Counts, page: Page, program: str, module: bytes, downloads
         on_paper = seen(page, "reserves-title", "reserves-drawn", "chance")
         counts.same("reserves on paper", [bool(one) for one in on_paper], [True] * 3)
         page.browser.media()
-    put(page, check_announcement=announcement.decode())
+    page.put(check_announcement=announcement.decode())
     shown = page.check(record)
     counts.same("its check", [shown["outcome"], shown["outcomeTitle"]], [
         "agrees", "The record agrees: the same list, the announcement that it names, and the draw repeated here gives "
@@ -120,7 +120,7 @@ def occasions(counts: Counts, page: Page) -> None:
     counts.same("taken away", printed("print-list", "print"), ["", ""])
     for name, announced, wanted in (("its announcement", KNOWN, EXAMPLE.occasion), ("none", "", ""),
                                     ("another", KNOWN.replace("12:00", "12:01"), ""), ("no announcement", "x", "")):
-        put(page, check_announcement=announced)
+        page.put(check_announcement=announced)
         page.check(record)
         counts.same(f"a check with {name}", printed("print-check"), [wanted])
 
@@ -134,15 +134,15 @@ def made_here(counts: Counts, page: Page, program: str, module: bytes) -> None:
     counts.same("nothing was saved", seen(page, "made"), [""])
     page.browser.run("window.print = () => {};")
     for word, data in (("printed", KNOWN.encode()), ("saved", EXAMPLE._replace(time='"x"').text().encode())):
-        put(page, time="x" if word == "saved" else FIELDS["time"])
+        page.put(time="x" if word == "saved" else FIELDS["time"])
         pressed(page, "print-announcement") if word == "printed" else saved(page)
         counts.same(f"it was {word}", seen(page, "made")[0].split("\n")[::2], [
             words.format(word), "Open this announcement"])
         for name, value in FIELDS.items():
             before = seen(page, name)[0]
-            put(page, **{name: "2" if value.isdigit() else "another"})
+            page.put(**{name: "2" if value.isdigit() else "another"})
             counts.same(f"{word}, and {name} has changed", seen(page, "made"), [""])
-            put(page, **{name: before})
+            page.put(**{name: before})
             counts.same(f"{word}, and {name} is as before", seen(page, "made-words"), [words.format(word)])
         for other in (LIST + b"Max\n", b"Ada\n\n", b""):
             page.open_file(other)
@@ -279,7 +279,7 @@ def forms(counts: Counts, page: Page) -> None:
         counts.same(f"the warning of {seed!r}", seen(page, "seed-form"), [warning])
         record = page.draw()["record"]
         counts.same(f"{seed!r} is drawn", f'seed: "{seed}"' in record, True)
-        put(page, check_announcement=KNOWN)
+        page.put(check_announcement=KNOWN)
         shown = page.check(record)
         counts.same(f"the check of {seed!r}", [shown["outcome"], shown["warned"]], ["agrees", [f"Warning: {warning}"]])
 
@@ -303,11 +303,11 @@ def check_fields(counts: Counts, page: Page, program: str, module: bytes) -> Non
                                ("another", KNOWN.replace("12:00", "12:01"), "differs"),
                                ("none", "x", "no announcement"), ("below a text", f"Hello\n{KNOWN}", "no announcement"),
                                ("cut", KNOWN[:-30], "no announcement"), ("the record", record, "no announcement")):
-        put(page, check_announcement=text)
+        page.put(check_announcement=text)
         counts.same(f"an announcement: {name}", page.check(record)["outcome"], wanted)
     for name, above, line, begin in (("a greeting", "Dear all,\n\n", 1, 3), ("empty lines", "\n\nHello\n", 3, 4),
                                      ("a quoted mail", "> Hello\n> ", 1, 2)):
-        put(page, check_announcement=above + KNOWN)
+        page.put(check_announcement=above + KNOWN)
         counts.same(f"an announcement below {name}", page.check(record)["findings"],
                     [f"Line {line}: the announcement begins in line {begin}. Remove the lines above it."])
     page.tab("check")
@@ -320,15 +320,15 @@ def check_fields(counts: Counts, page: Page, program: str, module: bytes) -> Non
     for name, data in (("no end", KNOWN[:-1].encode()), ("Windows", KNOWN.replace("\n", "\r\n").encode()),
                        ("a mark", b"\xef\xbb\xbf" + KNOWN.encode())):
         dropped(page, "check-announcement", data)
-        put(page, check_announcement=KNOWN)
+        page.put(check_announcement=KNOWN)
         counts.same(f"typed after a drop: {name}", [page.shown()["outcome"], page.check_again()["outcome"]],
                     ["", "agrees"])
-    put(page, check_announcement="")
+    page.put(check_announcement="")
     page.open_file(KNOWN.encode())
     page.browser.wait("return document.getElementById('check-announcement').value;")
     counts.same("opened beside the list", [page.facts()["digest"], page.check_again()["outcome"]],
                 [sha256(LIST), "agrees"])
-    put(page, check_announcement="")
+    page.put(check_announcement="")
     counts.same("without it", page.check_again()["warned"], [
         "Warning: The record names an announcement, which was not compared. Paste it above or drop its file there, and "
         "check again."])
@@ -350,7 +350,7 @@ def many(counts: Counts, page: Page, program: str, module: bytes) -> None:
         counts.same(f"{winners} and {reserves}", [shown["record"] == wanted, len(shown["drawn"]), page.browser.run(
             "return document.getElementById('reserves-drawn').children.length;")],
             [True, min(winners, 1000), max(0, min(drawn, 1000) - winners)])
-        put(page, check_announcement=announced.text())
+        page.put(check_announcement=announced.text())
         counts.same(f"{winners} and {reserves}: a check", page.check(shown["record"])["outcome"], "agrees")
     counts.same("the last line", END in shown["record"], True)
 

@@ -4,12 +4,13 @@ import math
 import random
 import re
 import time
+from itertools import product
 from pathlib import Path
 from typing import List
 
 from announcements import EXAMPLE, KNOWN, LIST, SAMPLE, needed
 from counts import Counts, sha256
-from page import SET, Page
+from page import Page
 from records import quoted
 from steps import focused, sheets
 
@@ -58,6 +59,7 @@ URL.createObjectURL = (blob) => {
 """
 STALE = ("The announcement that you saved is out of date: the list or a field has changed since. Save or print it "
          "again, and do not publish the one from before.")
+TURNS = 300
 BLANKS = re.compile(r"\[[a-z ,]+\]")
 
 
@@ -66,17 +68,12 @@ def seen(page: Page, *ids: str) -> List[str]:
     return [found[one].strip() for one in ids]
 
 
-def put(page: Page, **fields: str) -> None:
-    for name, value in fields.items():
-        page.browser.run(SET, name.replace("_", "-"), value)
-
-
 def begun(page: Page, data: bytes = LIST, **fields: str) -> None:
     """A fresh page with a list and all fields of the example."""
     page.load()
     page.open_file(data)
     page.facts()
-    put(page, **{**FIELDS, **fields})
+    page.put(**{**FIELDS, **fields})
 
 
 def pressed(page: Page, button: str) -> None:
@@ -126,7 +123,7 @@ def fields(counts: Counts, page: Page) -> None:
     begun(page)
     for name, called in CALLED.items():
         for value in ("", "   ", "half"):
-            put(page, **{name: value})
+            page.put(**{name: value})
             if value == "half":
                 page.browser.run("document.getElementById(arguments[0]).value = '\\u00e9\\ud800';", name)
             pressed(page, "save-announcement")
@@ -135,15 +132,15 @@ def fields(counts: Counts, page: Page) -> None:
             counts.same(f"{name} is {value!r}", found, [f"Type {called}{again}.", "", name])
         for value in ('"', ' "x" ', "a\\b", "\u200b\u202eabc", "\U0001f469\u200d\U0001f4bb", "x" * 10000, "a\u00a0b",
                       "\u5f20"):
-            put(page, **{name: value})
+            page.put(**{name: value})
             wanted = EXAMPLE._replace(**{name: quoted(value.encode())}).text()
             counts.same(f"{name} is {value[:20]!r}", saved(page), wanted.encode())
             is_told = bool(seen(page, "announcement-escapes")[0])
             counts.same(f"{name} is {value[:20]!r}: escapes", is_told, "\\" in wanted)
-        put(page, **{name: FIELDS[name]})
+        page.put(**{name: FIELDS[name]})
         pressed(page, "save-announcement")
         page.browser.run("document.getElementById('announcement').hidden = true;")
-    put(page, source="one\n  two")
+    page.put(source="one\n  two")
     counts.same("two lines", saved(page), EXAMPLE._replace(source='"one two"').text().encode())
 
 
@@ -157,13 +154,13 @@ def numbers(counts: Counts, page: Page) -> None:
             *(("reserves", value, reserves) for value in ("", "x", "-1", "1.5", "none")),
             ("winners", "12", few.format(12, 1)), ("winners", "13", few.format(13, 1)),
             ("reserves", "10", few.format(3, 10))):
-        put(page, **{"winners": "3", "reserves": "1", name: value})
+        page.put(**{"winners": "3", "reserves": "1", name: value})
         pressed(page, "save-announcement")
         counts.same(f"{name}: {value!r}", seen(page, "announce-error")[0], wanted)
         is_marked = page.browser.run("return document.activeElement.getAttribute('aria-invalid');")
         counts.same(f"{name}: {value!r} is marked", is_marked, "true")
     for won, kept in (("12", "0"), ("1", "11"), ("03", "01"), (" 3 ", "1")):
-        put(page, winners=won, reserves=kept)
+        page.put(winners=won, reserves=kept)
         counts.same(f"{won} and {kept}", saved(page),
                     EXAMPLE._replace(winners=int(won), reserves=int(kept)).text().encode())
 
@@ -196,7 +193,7 @@ def enough(counts: Counts, page: Page) -> None:
              f"{math.log2(combined(20)):.1f} bits (6 numbers of 49; 3 prices, at about 10 bits each, which is an "
              "estimate; 20 throws of a die)", True)):
         page.browser.run(CHOOSE, preset)
-        put(page, **{f"preset_{name}": value for name, value in values.items()})
+        page.put(**{f"preset_{name}": value for name, value in values.items()})
         wanted = f"{sets} The seed has {has}. {'That is enough.' if is_enough else few} {throws}"
         wanted += thrown if "throws" in values else others
         counts.same(f"{preset}, {values}", seen(page, "enough")[0], wanted)
@@ -206,10 +203,10 @@ def enough(counts: Counts, page: Page) -> None:
                 + others)
     page.browser.run(CHOOSE, "die")
     for winners in ("", "0", "341", "x"):
-        put(page, winners=winners)
+        page.put(winners=winners)
         counts.same(f"{winners!r} winners", seen(page, "enough"), [""])
     for winners in (1, 2, 150, 339, 340):
-        put(page, winners=str(winners))
+        page.put(winners=str(winners))
         found = seen(page, "enough")[0]
         begin = f"{winners} of 340: 2^{math.log2(math.comb(340, winners)):.1f} sets of winners could come."
         is_more = math.comb(340, winners) > 2**256
@@ -229,7 +226,7 @@ def presets(counts: Counts, page: Page) -> None:
               "prices": r"([0-9]+\.[0-9]{2} ?){3}",
               "drand": "[0-9a-f]{64}", "several": r"([0-9]+\.){6}/([0-9]+\.){3}/([1-6]\.){20}/", "other": ""}
     for preset, wanted in asks.items():
-        put(page, preset_throws="20")
+        page.put(preset_throws="20")
         page.browser.run(CHOOSE, preset)
         counts.same(f"{preset} asks", page.browser.run(ASKED), wanted)
         source, form, example = seen(page, "source", "form", "example")
@@ -242,7 +239,7 @@ def presets(counts: Counts, page: Page) -> None:
             pressed(page, "save-announcement")
             counts.same(f"{preset}: {blank[0]}", seen(page, "announce-error"),
                         [f"Replace {blank[0]} in the source of the seed."])
-            put(page, source=seen(page, "source")[0].replace(blank[0], "X"))
+            page.put(source=seen(page, "source")[0].replace(blank[0], "X"))
         if preset == "other":
             counts.same("something else", [source, form, example], ["", "", ""])
             continue
@@ -251,14 +248,14 @@ def presets(counts: Counts, page: Page) -> None:
                                        example=quoted(example.encode())).text()
         counts.same(f"{preset}: its file", saved(page), wanted_text.encode())
     page.browser.run(CHOOSE, "drand")
-    put(page, preset_key="ab" * 48, preset_round="4242")
+    page.put(preset_key="ab" * 48, preset_round="4242")
     counts.same("a drand round", seen(page, "source")[0],
                 f"round 4242 of the drand chain with the public key {'ab' * 48}")
     page.browser.run(CHOOSE, "die")
-    put(page, form="as they fall", preset_throws="5")
+    page.put(form="as they fall", preset_throws="5")
     counts.same("an edited text stays", seen(page, "form", "example"), ["as they fall", "4 1 6 3 3"])
     for value in ("", "0", "1001", "x"):
-        put(page, preset_throws=value)
+        page.put(preset_throws=value)
         counts.same(f"{value!r} throws", seen(page, "form", "example", "enough"), ["as they fall", "4 1 6 3 3", ""])
     page.browser.run(CHOOSE, "die")
 
@@ -272,35 +269,35 @@ def of_preset(page: Page, preset: str) -> None:
     page.load()
     page.open_file("".join(f"n{number}\n" for number in range(340)).encode())
     page.facts()
-    put(page, **{**{name: FIELDS[name] for name in ("occasion", "time")}, "winners": "2", "reserves": "0"})
+    page.put(**{**{name: FIELDS[name] for name in ("occasion", "time")}, "winners": "2", "reserves": "0"})
     page.browser.run(CHOOSE, preset)
 
 
 def edited(counts: Counts, page: Page) -> None:
     """After a text was edited, more winners change no text and no number: the page says that it is not enough."""
-    for preset in ("die", "several", "lottery", "prices"):
-        for text in ("source", "form", "example"):
-            of_preset(page, preset)
-            put(page, winners="100")
-            before = filled(page)
-            counts.same(f"{preset}: advised", before[3], "" if preset in ("lottery", "prices") else "100")
-            put(page, winners="2")
-            put(page, **{text: seen(page, text)[0] + " x"})
-            before = filled(page)
-            for winners in ("12", "100", "1", "170"):
-                put(page, winners=winners)
-                counts.same(f"{preset}, {text} was edited, {winners} winners", filled(page), before)
-            put(page, winners="12")
-            found = seen(page, "enough")[0]
-            counts.same(f"{preset}, {text} was edited: not enough", [
-                "That is not enough: some sets cannot come." in found, "28 throws of a die are enough" in found],
-                        [preset != "several", True])
-            page.open_file("".join(f"n{number}\n" for number in range(5000)).encode())
-            page.facts()
-            counts.same(f"{preset}, {text} was edited, another list", filled(page), before)
-            put(page, **{text: before[("source", "form", "example").index(text)][:-2]})
-            put(page, winners="13")
-            counts.same(f"{preset}, {text} is as before: advised", filled(page)[3] != before[3], "throws" in before[0])
+    cases = product(("die", "several", "lottery", "prices"), ("source", "form", "example"))
+    for preset, text in page.share(cases):
+        of_preset(page, preset)
+        page.put(winners="100")
+        before = filled(page)
+        counts.same(f"{preset}: advised", before[3], "" if preset in ("lottery", "prices") else "100")
+        page.put(winners="2")
+        page.put(**{text: seen(page, text)[0] + " x"})
+        before = filled(page)
+        for winners in ("12", "100", "1", "170"):
+            page.put(winners=winners)
+            counts.same(f"{preset}, {text} was edited, {winners} winners", filled(page), before)
+        page.put(winners="12")
+        found = seen(page, "enough")[0]
+        counts.same(f"{preset}, {text} was edited: not enough", [
+            "That is not enough: some sets cannot come." in found, "28 throws of a die are enough" in found],
+                    [preset != "several", True])
+        page.open_file("".join(f"n{number}\n" for number in range(5000)).encode())
+        page.facts()
+        counts.same(f"{preset}, {text} was edited, another list", filled(page), before)
+        page.put(**{text: before[("source", "form", "example").index(text)][:-2]})
+        page.put(winners="13")
+        counts.same(f"{preset}, {text} is as before: advised", filled(page)[3] != before[3], "throws" in before[0])
 
 
 def typed_anew(counts: Counts, page: Page) -> None:
@@ -316,15 +313,15 @@ def typed_anew(counts: Counts, page: Page) -> None:
             ("drand", "preset_key", ("$&", "$1 (a.c)"), "public key [public key]", "public key $1 (a.c)")):
         of_preset(page, preset)
         source, form = seen(page, "source", "form")
-        put(page, source=f"Look: {source}; {kept}", form=f"{form} ({old})")
+        page.put(source=f"Look: {source}; {kept}", form=f"{form} ({old})")
         for key in keys:
-            put(page, **{field: key})
+            page.put(**{field: key})
         found = seen(page, "source", "form", "disagreements")
         counts.same(f"{preset}, {field}: {keys[-1]}", found, [
             f"Look: {source}; {kept}".replace(old, new, 1), f"{form} ({new})", ""])
-        put(page, source=found[0].replace(new, new.replace(" ", " \n", 1), 1))
+        page.put(source=found[0].replace(new, new.replace(" ", " \n", 1), 1))
         counts.same(f"{preset}, {field}: another line", seen(page, "disagreements"), [""])
-        put(page, **{field: "5"})
+        page.put(**{field: "5"})
         counts.same(f"{preset}, {field}: typed again", new not in " ".join(seen(page, "source")[0].split()), True)
 
 
@@ -344,10 +341,10 @@ def apart(counts: Counts, page: Page) -> None:
             ("lottery", "6 numbers, 25 throws", "20", "", None), ("lottery", "some", "20", "6 numbers", None),
             ("other", "25 throws", "20", "", None)):
         of_preset(page, preset)
-        put(page, preset_throws=throws)
-        put(page, source=source)
+        page.put(preset_throws=throws)
+        page.put(source=source)
         if preset == "other":
-            put(page, form="a form", example="an example")
+            page.put(form="a form", example="an example")
         counts.same(f"{preset}, {source!r}: a warning", seen(page, "disagreements"),
                     [warning and compare.format(warning)])
         pressed(page, "save-announcement")
@@ -357,52 +354,53 @@ def apart(counts: Counts, page: Page) -> None:
             f"throws is {throws}. Change one of them.", said is None])
         counts.same(f"{preset}, {source!r}: the field", focused(page) == "source", said is not None)
     of_preset(page, "die")
-    put(page, source="a die, 20 times", preset_throws="30")
+    page.put(source="a die, 20 times", preset_throws="30")
     counts.same("throws that no words have", seen(page, "source", "disagreements"),
                 ["a die, 20 times", compare.format("30 throws")])
     of_preset(page, "several")
-    put(page, source="25 throws", preset_numbers="x")
+    page.put(source="25 throws", preset_numbers="x")
     pressed(page, "save-announcement")
     counts.same("another value is missing", seen(page, "announce-error"), [
         "The source of the seed says 25 throws, but the number of throws is 20. Change one of them."])
     of_preset(page, "lottery")
-    put(page, source=seen(page, "source")[0] + ".", preset_numbers="1")
+    page.put(source=seen(page, "source")[0] + ".", preset_numbers="1")
     counts.same("one number", seen(page, "source", "disagreements"), [
         "the 1 number of [name of the lottery], drawn on [date], without additional numbers.", ""])
     of_preset(page, "die")
-    put(page, source="30 throws, 2 throws each")
+    page.put(source="30 throws, 2 throws each")
     for value in ("30", "40", "1", "20", "25"):
         for key in (value[0], value):
-            put(page, preset_throws=key)
+            page.put(preset_throws=key)
         page.browser.run(LEAVE, "preset-throws")
         counts.same(f"the source first, then {value} throws", seen(page, "source", "disagreements"), [
             f"{value} {'throw' if value == '1' else 'throws'}, 2 throws each", ""])
     of_preset(page, "die")
-    put(page, example="1 2 3")
+    page.put(example="1 2 3")
     counts.same("a short example", seen(page, "disagreements"), ["The example has 3 parts between spaces, and not 20."])
-    put(page, form="as they fall")
+    page.put(form="as they fall")
     counts.same("a short example of another form", seen(page, "disagreements"), [""])
 
 
 def by_chance(counts: Counts, page: Page) -> None:
-    """Whatever is changed in any order: what is saved does not say another number of throws than its field."""
-    rng = random.Random(7)
+    """Whatever is changed in any order: what is saved does not say another number of throws than its field. Each
+    browser has changes of its own."""
+    rng = random.Random(7 + page.number)
     page.browser.run(CHOOSE, "die")
     saves = 0
-    for turn in range(300):
+    for turn in range(TURNS // page.browsers):
         kind = rng.randrange(6)
         if kind == 0:
-            put(page, winners=str(rng.randint(1, 340)))
+            page.put(winners=str(rng.randint(1, 340)))
         elif kind == 1:
-            put(page, preset_throws=rng.choice(["", "1", "2", "20", "30", "99", "x"]))
+            page.put(preset_throws=rng.choice(["", "1", "2", "20", "30", "99", "x"]))
         elif kind == 2:
             page.browser.run(CHOOSE, rng.choice(["die", "several"]))
         elif kind == 3:
             text = rng.choice(["source", "form", "example"])
             old = seen(page, text)[0]
-            put(page, **{text: rng.choice([f"{old}.", f"2 {old}", old.replace("20", "30"), old[3:] or "x"])})
+            page.put(**{text: rng.choice([f"{old}.", f"2 {old}", old.replace("20", "30"), old[3:] or "x"])})
         else:
-            put(page, source=BLANKS.sub("X", seen(page, "source")[0]))
+            page.put(source=BLANKS.sub("X", seen(page, "source")[0]))
         throws, before = seen(page, "preset-throws", "source")
         pressed(page, "save-announcement")
         told, text = seen(page, "announce-error", "announcement-text")
@@ -413,7 +411,7 @@ def by_chance(counts: Counts, page: Page) -> None:
         elif not told:
             saves += 1
             counts.same(f"turn {turn}: saved", quoted(before.encode()) in text, True)
-    counts.case("some are saved", "" if saves > 40 else str(saves))
+    counts.case("some are saved", "" if saves * page.browsers > 40 else str(saves))
 
 
 def stale(counts: Counts, page: Page) -> None:
@@ -421,9 +419,9 @@ def stale(counts: Counts, page: Page) -> None:
     for name, value in FIELDS.items():
         begun(page)
         saved(page)
-        put(page, **{name: "2" if value.isdigit() else f"{value}."})
+        page.put(**{name: "2" if value.isdigit() else f"{value}."})
         counts.same(f"{name} has changed", seen(page, "announcement-stale"), [STALE])
-        put(page, **{name: value})
+        page.put(**{name: value})
         counts.same(f"{name} is as before", seen(page, "announcement-stale"), [""])
     for data in (LIST + b"Max\n", LIST.replace(b"Ada", b"Eve"), LIST[:-1]):
         page.open_file(data)
@@ -437,7 +435,7 @@ def stale(counts: Counts, page: Page) -> None:
     pressed(page, "print-announcement")
     counts.same("it is new if printed", [page.browser.run("return window.printed;"), *seen(page, "announcement-stale")],
                 ["announcement", ""])
-    put(page, winners="4")
+    page.put(winners="4")
     counts.same("a printed one", seen(page, "announcement-stale"), [STALE.replace("saved", "printed")])
 
 
@@ -465,16 +463,16 @@ def heard(counts: Counts, page: Page) -> None:
     """A screen reader does not read the same again while a field is typed."""
     begun(page)
     pressed(page, "save-announcement")
-    put(page, winners="4")
+    page.put(winners="4")
     page.browser.run("""window.changes = 0;
         const watcher = new MutationObserver((records) => { window.changes += records.length; });
         for (const id of ["enough-status", "announcement-status"]) {
           watcher.observe(document.getElementById(id), { childList: true, characterData: true, subtree: true });
         }""")
     for text in ("a", "ab", "abc"):
-        put(page, occasion=text)
+        page.put(occasion=text)
     counts.same("what is said again", page.browser.run("return window.changes;"), 0)
-    put(page, winners="5")
+    page.put(winners="5")
     counts.case("what is said anew", "" if page.browser.wait("return window.changes;") else "nothing")
 
 

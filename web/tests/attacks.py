@@ -161,8 +161,8 @@ def judge(counts: Counts, name: str, record: str, said: List[str], text: str, fo
 
 
 def mutations(counts: Counts, page: Page, record: str, said: List[str]) -> None:
-    rng = random.Random(78)
-    texts = [mutated(rng, record, most) for most in (1, 3) for _ in range(NUMBER)]
+    rng = random.Random(78 + page.number)
+    texts = [mutated(rng, record, most) for most in (1, 3) for _ in range(NUMBER // page.browsers)]
     for index, (text, found) in enumerate(zip(texts, checked(page, texts))):
         judge(counts, f"mutation {index}", record, said, text, found)
 
@@ -238,7 +238,8 @@ def lookalikes_in_records(counts: Counts, page: Page, layout: Layout, record: st
                 texts[name, place] = record[:place] + change(letter) + record[place + 1:]
     del texts["a byte order mark", 0]
     wrong = {}
-    for (name, place), (outcome, _) in zip(texts, checked(page, list(texts.values()))):
+    shared = dict(page.share(texts.items()))
+    for (name, place), (outcome, _) in zip(shared, checked(page, list(shared.values()))):
         right = outcome in ("no record", "differs")
         # The version and the module may be others.
         line = record[:place].count("\n") + 1
@@ -257,8 +258,8 @@ def lookalikes_in_lists(counts: Counts, page: Page, record: str) -> None:
     for name, change in LOOKALIKES.items():
         lists = [LIST[:place] + change(letter) + LIST[place + 1:] for place, letter in enumerate(LIST)
                  if letter != "\n" and change(letter) != letter]
-        found = page.browser.run(CHECK_LISTS, lists)
-        counts.same(f"lists with {name}", (set(found), len(found) > 0), ({"differs"}, True))
+        found = page.browser.run(CHECK_LISTS, page.share(lists))
+        counts.same(f"lists with {name}", (set(found), len(lists) > 0), ({"differs"} if found else set(), True))
         line = next(line for line in NAMES if any(change(letter) != letter for letter in line))
         place = next(place for place, letter in enumerate(line) if change(letter) != letter)
         page.paste(f"{LIST}{line[:place]}{change(line[place])}{line[place + 1:]}\n")

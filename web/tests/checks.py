@@ -5,7 +5,7 @@ import random
 import re
 import textwrap
 from pathlib import Path
-from typing import Dict, List
+from typing import Dict, Iterator, List, Tuple
 
 from counts import UNSEEN, Counts, lots, sha256
 from page import Page
@@ -21,6 +21,10 @@ TITLES = {
     "no record": "This text is not a record of a draw.",
     "no list": "The record can be read. Open or paste its list above, and check again.",
 }
+# How many records with one changed letter are checked, in each format.
+BROKEN = 60
+# A text that is no record: its name, the text, and the line that is wrong.
+Wrong = Tuple[str, str, int]
 OTHER_LIST = "This is not the list that the record names."
 
 
@@ -194,26 +198,25 @@ def no_records(counts: Counts, page: Page, record: str) -> None:
         no(counts, page, f"the title {title}", with_line(record, 1, title), 1)
 
 
-def wrong_lines(counts: Counts, page: Page, layout: Layout, record: str) -> None:
+def wrong_lines(layout: Layout, record: str) -> Iterator[Wrong]:
     """Lines that are missing, doubled, swapped or indented."""
     lines = record[:-1].split("\n")
     # Without the module's line the record is one of the program `lots`.
     module = layout.line("module SHA-256") if layout is FORMAT2 else 0
     for number in range(1, len(lines) + 1):
-        no(counts, page, f"cut before line {number}", "\n".join(lines[:number - 1]), number)
+        yield f"cut before line {number}", "\n".join(lines[:number - 1]), number
         if number != module:
-            no(counts, page, f"without line {number}", "\n".join(lines[:number - 1] + lines[number:]), number)
+            yield f"without line {number}", "\n".join(lines[:number - 1] + lines[number:]), number
         for space in (" ", "\t", "\u00a0", *(["\ufeff"] if number > 1 else [])):
-            no(counts, page, f"{space!r} before line {number}",
-               with_line(record, number, space + lines[number - 1]), number)
-        no(counts, page, f"line {number} twice", "\n".join(lines[:number] + lines[number - 1:]), number + 1)
+            yield f"{space!r} before line {number}", with_line(record, number, space + lines[number - 1]), number
+        yield f"line {number} twice", "\n".join(lines[:number] + lines[number - 1:]), number + 1
     for number, name in enumerate(layout.names, 2):
         swapped = lines[:]
         swapped[number - 1], swapped[number] = lines[number], lines[number - 1]
         at = number + 1 if number == module else number
-        no(counts, page, f"lines {number} and {number + 1} swapped", "\n".join(swapped), at)
+        yield f"lines {number} and {number + 1} swapped", "\n".join(swapped), at
         for value in ("", "x", "null", "-1", "[]", "{}"):
-            no(counts, page, f"{name} is {value!r}", with_value(layout, record, name, value), number)
+            yield f"{name} is {value!r}", with_value(layout, record, name, value), number
 
 
 # Values that no record of either format has.
@@ -230,22 +233,23 @@ WRONG = {
 }
 
 
-def wrong_values(counts: Counts, page: Page, layout: Layout, record: str) -> None:
+def wrong_values(layout: Layout, record: str) -> Iterator[Wrong]:
+    """Values that a record does not have."""
     for name in layout.names:
         for value in WRONG[name]:
-            no(counts, page, f"{name} is {value[:20]}", with_value(layout, record, name, value), layout.line(name))
+            yield f"{name} is {value[:20]}", with_value(layout, record, name, value), layout.line(name)
     first = layout.first
     for text in ("1: ", "1:", "01: Katherine", '01: "Katherine"', "2: Katherine", '2: "Katherine"', "1. Katherine",
                  "1: Kath\\erine", '1: "Kath\\erine"', "1: Kath\\x4", '1: "Kath\\x4"', "1: Kath\\X4B",
                  '1: "Kath\\X4B"', "1: \\x0a", '1: "\\x0a"', "1: a\\", '1: "a\\"',
                  *([] if layout is FORMAT1 else ['1: ""'])):
-        no(counts, page, f"the entrant {text!r}", with_line(record, first, text), first)
+        yield f"the entrant {text!r}", with_line(record, first, text), first
     for entrant in (*(f"Kath{letter}erine" for letter in UNSEEN), "\u00e9\\xff", "\\xe2\\x80\u200b"):
-        no(counts, page, f"the entrant {entrant!r}, unescaped", with_entrant(layout, record, 1, entrant), first)
+        yield f"the entrant {entrant!r}, unescaped", with_entrant(layout, record, 1, entrant), first
     if layout is FORMAT1:
-        no(counts, page, "two seeds", with_value(layout, record, "seed", '"a" "b"'), 2)
-        no(counts, page, "a space before an entrant", with_entrant(layout, record, 1, " Katherine"), first)
-        no(counts, page, "more drawn than there are lines", with_value(layout, record, "drawn", "9" * 15), first + 3)
+        yield "two seeds", with_value(layout, record, "seed", '"a" "b"'), 2
+        yield "a space before an entrant", with_entrant(layout, record, 1, " Katherine"), first
+        yield "more drawn than there are lines", with_value(layout, record, "drawn", "9" * 15), first + 3
 
 
 def folded(line: str, width: int) -> str:
@@ -310,7 +314,7 @@ def seeds_survive(counts: Counts, page: Page, program: str) -> None:
     seeds = [" ", "  two  ", "\ttab", "\"quoted\"", "\\", "\\n", "é", "e\u0301", "🎲", "\u200b",
              "\u00a0x", "\u2028", "\u202eabc", "\x00", "\x7f", "</script>", "{{python}}", "nanorand public draw 1",
              "\ufeffx", "\U000e0041", "漢字", f"a{UNSEEN[1:]}b"]
-    for seed in seeds:
+    for seed in page.share(seeds):
         record = first_record(page, seed, "all")
         line = record.split("\n")[2]
         right = not any(map(is_hidden, line)) and bytes_of(line[len("seed: "):]).decode() == seed
@@ -337,10 +341,10 @@ def seed_of_lines(counts: Counts, page: Page, program: str, module: str) -> None
 
 def broken_records(counts: Counts, page: Page, layout: Layout, record: str) -> None:
     """Records with a changed character agree only if they still have the same meaning."""
-    rng = random.Random(37)
+    rng = random.Random(37 + page.number)
     letters: List[str] = list("0123456789abcdefx\\\":. \n") + ["é", "\u0000"]
     others = [layout.line(name) for name in ("version", "module SHA-256") if name in layout.names]
-    for _ in range(60):
+    for _ in range(BROKEN // page.browsers):
         place = rng.randrange(len(record) - 1)
         letter = rng.choice(letters)
         changed = record[:place] + letter + record[place + 1:]
@@ -372,8 +376,8 @@ def run(counts: Counts, page: Page, program: str, digests: Dict[int, str]) -> No
         agreements(counts, page, layout, text)
         makers(counts, page, layout, text, digests)
         differences(counts, page, layout, text)
-        wrong_lines(counts, page, layout, text)
-        wrong_values(counts, page, layout, text)
+        for name, changed, line in page.share([*wrong_lines(layout, text), *wrong_values(layout, text)]):
+            no(counts, page, name, changed, line)
         broken_records(counts, page, layout, text)
         records_of_mails(counts, page, layout)
         long_records(counts, page, layout)

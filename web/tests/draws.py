@@ -12,7 +12,8 @@ from records import NAMED, record_of
 
 ALPHABETS = [(0x30, 0x3A), (0x20, 0x7F), (0xA0, 0x800), (0x800, 0xD800), (0x10000, 0x110000), (0x01, 0x0D)]
 LENGTHS = [1, 2, 5, 20, 31, 32, 33, 55, 56, 57, 63, 64, 65, 119, 120, 200]
-LONG = 600_000
+# More arguments than a call takes.
+LONG = {"Chromium": 200_000, "Firefox": 600_000}
 ROOM = 65536
 # Records the addresses of files, and what is to be done later.
 ADDRESSES = """
@@ -74,9 +75,10 @@ def compare(counts: Counts, page: Page, program: str, module: str, name: str,
 
 
 def random_draws(counts: Counts, page: Page, program: str, module: str, number: int) -> None:
-    """Half of the lists are pasted, half are files. The page then checks each record."""
-    rng = random.Random(31)
-    for index in range(number):
+    """Half of the lists are pasted, half are files. The page then checks each record. Each browser has draws of its
+    own."""
+    rng = random.Random(31 + page.number)
+    for index in range(number // page.browsers):
         is_text = index % 2 == 0
         size = rng.randint(301, 3000) if index % 25 == 0 else rng.randint(0, 12 if index % 4 == 3 else 300)
         lines = some_lines(rng, size, is_text)
@@ -98,13 +100,14 @@ def random_draws(counts: Counts, page: Page, program: str, module: str, number: 
 def sizes(counts: Counts, page: Page, program: str, module: str) -> None:
     """Lists whose bytes or places exactly fill memory pages, or nearly do."""
     page.load()
-    for length in [*range(ROOM - 34, ROOM + 2), 2 * ROOM - 33, 2 * ROOM - 32, 2 * ROOM - 31, 5 * ROOM - 8]:
+    lengths = [*range(ROOM - 34, ROOM + 2), 2 * ROOM - 33, 2 * ROOM - 32, 2 * ROOM - 31, 5 * ROOM - 8]
+    for length in page.share(lengths):
         data = b"a" * (length - 4) + b"\nbc\n"
         page.load() if length % 3 == 0 else None
         page.open_file(data)
         page.fill("seed", "all")
         compare(counts, page, program, module, f"a list of {length} bytes", "seed", "all", data)
-    for entrants in (8190, 8191, 8192, 8193, 16384):
+    for entrants in page.share((8190, 8191, 8192, 8193, 16384)):
         data = b"x\n" * (entrants - 1) + b"y\n"
         page.load()
         page.open_file(data)
@@ -116,9 +119,16 @@ def sizes(counts: Counts, page: Page, program: str, module: str) -> None:
 def long_entrants(counts: Counts, page: Page, program: str, module: str) -> None:
     """Draws and checks entrants of more bytes than a browser accepts as arguments of one call."""
     page.load()
+    long = LONG[page.browser.name]
+    counts.same("as arguments of one call", page.browser.run("""
+        try {
+          return String.fromCharCode(...new Uint8Array(arguments[0])).length;
+        } catch (error) {
+          return error.name;
+        }""", long), "RangeError")
     for name, letter in (("letters", b"a"), ("wide letters", "\u6f22".encode()), ("backslashes", b"\\"),
                          ("no UTF-8", b"\xff"), ("any bytes", bytes(set(range(256)) - {10}))):
-        data = letter * (LONG // len(letter)) + b"\nb\n"
+        data = letter * (long // len(letter)) + b"\nb\n"
         page.open_file(data)
         page.fill("seed", "all")
         shown = compare(counts, page, program, module, f"a long entrant of {name}", "seed", "all", data)
@@ -128,7 +138,7 @@ def long_entrants(counts: Counts, page: Page, program: str, module: str) -> None
 def long_lists(counts: Counts, page: Page, program: str, module: str) -> None:
     page.load()
     watch_progress(page)
-    for size, count in ((100_000, "all"), (100_000, "1000"), (100_000, "1001"), (1_000_000, "all")):
+    for size, count in (*page.share(((100_000, "all"), (100_000, "1000"), (100_000, "1001"))), (1_000_000, "all")):
         data = b"".join(b"entrant %d\n" % number for number in range(size))
         page.open_file(data)
         page.fill(f"a list of {size}", count)

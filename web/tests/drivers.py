@@ -20,6 +20,8 @@ from typing import Any, Dict, List, Optional, Type
 
 # The milliseconds that a script and loading a page may take. Checking a million entrants takes long.
 TIMEOUTS = {"script": 120_000, "pageLoad": 120_000}
+# The pauses between two looks at a page grow up to this many seconds.
+LONGEST_PAUSE = 0.1
 # How often a window is set to a size until the page has the wanted one.
 RESIZES = 10
 ELEMENT = "element-6066-11e4-a52e-4f735466cecf"
@@ -48,11 +50,13 @@ class Browser:
     def wait(self, script: str, *values: Any, seconds: float = 120) -> Any:
         """Runs a script until its value is not false, and returns the value."""
         end = time.monotonic() + seconds
+        pause = LONGEST_PAUSE / 10
         while time.monotonic() < end:
             value = self.run(script, *values)
             if value:
                 return value
-            time.sleep(0.01)
+            time.sleep(pause)
+            pause = min(1.5 * pause, LONGEST_PAUSE)
         raise DriverError(f"waited in vain for: {script}")
 
     def element(self, selector: str) -> str:

@@ -127,7 +127,7 @@ def entrants(counts: Counts, page: Page, program: str, module: str) -> None:
         page.open_file(data)
         seeds = ["seed", *(one.decode() for one in bare if is_text(one))] if name == "odd bytes" else [
             "".join(letter for letter in edges() if letter not in "\0\n\r")]
-        for seed in seeds:
+        for seed in page.share(seeds) if name == "odd bytes" else seeds:
             seed = re.sub(r"[\0\n\r]", "x", seed)
             page.fill(seed, "all")
             record = page.draw()["record"]
@@ -149,7 +149,7 @@ def numbers(counts: Counts, page: Page, program: str, module: str) -> None:
     data = b"".join(b"%d\n" % number for number in range(1002))
     page.load()
     page.open_file(data)
-    for count in ("0", "1", "999", "1000", "1001", "1002"):
+    for count in page.share(("0", "1", "999", "1000", "1001", "1002")):
         page.fill("a seed", count)
         record = page.draw()["record"]
         result = lots(program, "a seed", count, data).output
@@ -197,7 +197,7 @@ def reasons(counts: Counts, page: Page) -> None:
 
 def old_ones(counts: Counts, page: Page, module: str) -> None:
     """Records that earlier versions of the page wrote still agree, and no other text in their place does."""
-    for name, (data, record) in of_format1(module).items():
+    for name, (data, record) in page.share(of_format1(module).items()):
         page.load()
         page.open_file(data)
         checks.outcome(counts, page, name, record, "agrees")

@@ -3,6 +3,7 @@
 import re
 import time
 import unicodedata
+from itertools import product
 from typing import List
 
 from counts import Counts, sha256
@@ -152,8 +153,9 @@ def pastes(counts: Counts, page: Page) -> None:
     """Pasted text is inserted into the old text. The browser itself handles short texts."""
     page.load()
     counts.same("a short text", page.browser.run(PASTE, "Ada\n" * 20_000, None, None), True)
-    for lines in ("Ada\r\n", "Ada\r", "Ada\n", "Ada\rBob\r\nCid\n"):
-        pasted_between(counts, page, lines * 30_000)
+    places = ((0, 0, "{}x\ny\n"), (2, 2, "x\n{}y\n"), (0, 4, "{}"), (4, 4, "x\ny\n{}"))
+    for lines, place in page.share(product(("Ada\r\n", "Ada\r", "Ada\n", "Ada\rBob\r\nCid\n"), places)):
+        pasted_between(counts, page, lines * 30_000, *place)
     page.browser.run(PASTE.replace("given ?? window.text", "`${given}\\ud800`"), "a\n" * 60_000, None, None)
     counts.case("half a character", "" if "Line 60001 has half" in page.facts()["list"] else page.facts()["list"])
     page.fill("seed", "all")
@@ -162,21 +164,20 @@ def pastes(counts: Counts, page: Page) -> None:
     counts.case("why not", "" if "Line 60001 has half" in shown["list"] else shown["list"])
 
 
-def pasted_between(counts: Counts, page: Page, long: str) -> None:
-    """A long text at both ends of a short one, within it, and in its place. All line ends become line feeds."""
-    for first, last, wanted in ((0, 0, "{}x\ny\n"), (2, 2, "x\n{}y\n"), (0, 4, "{}"), (4, 4, "x\ny\n{}")):
-        page.paste("x\ny\n")
-        page.browser.run(PASTE, long, first, last)
-        data = wanted.format(re.sub("\r\n?", "\n", long)).encode()
-        counts.same(f"{long[:13]!r} pasted from {first} to {last}", page.facts()["digest"], sha256(data))
-        name = page.browser.run("return document.getElementById('file-name').textContent;")
-        counts.same("its name", name, f"Pasted text, {grouped(len(data))} bytes, not saved yet: save it")
-        counts.same("the keyboard after it", page.browser.run("return document.activeElement.id;"), "close-file")
+def pasted_between(counts: Counts, page: Page, long: str, first: int, last: int, wanted: str) -> None:
+    """A long text at an end of a short one, within it, or in its place. All line ends become line feeds."""
+    page.paste("x\ny\n")
+    page.browser.run(PASTE, long, first, last)
+    data = wanted.format(re.sub("\r\n?", "\n", long)).encode()
+    counts.same(f"{long[:13]!r} pasted from {first} to {last}", page.facts()["digest"], sha256(data))
+    name = page.browser.run("return document.getElementById('file-name').textContent;")
+    counts.same("its name", name, f"Pasted text, {grouped(len(data))} bytes, not saved yet: save it")
+    counts.same("the keyboard after it", page.browser.run("return document.activeElement.id;"), "close-file")
 
 
 def alike(counts: Counts, page: Page) -> None:
     page.load()
-    for text, begins in ALIKE.items():
+    for text, begins in page.share(ALIKE.items()):
         page.paste(text)
         found = page.facts()["warnings"]
         right = len(found) == len(begins) and all(one.startswith(begin) for one, begin in zip(found, begins))
@@ -186,7 +187,7 @@ def alike(counts: Counts, page: Page) -> None:
 def tidied(counts: Counts, page: Page) -> None:
     """Each change of a file and of a pasted text: the changed list, and the number of lines that the page reports."""
     page.load()
-    for (change, before), (after, changed) in TIDY.items():
+    for (change, before), (after, changed) in page.share(TIDY.items()):
         lines = "1 line was" if changed == 1 else f"{changed} lines were"
         said = f"{lines} {'made shorter' if change == 'trim' else 'removed'}. The list has a new SHA-256."
         said = said if changed else "No line was changed: the SHA-256 is as before."

@@ -7,7 +7,7 @@ from typing import List
 
 from announced import opened
 from announcements import KNOWN
-from announcing import CHOOSE, begun, pressed, put
+from announcing import CHOOSE, begun, pressed
 from counts import Counts
 from drivers import ENTER, SPACE, TAB
 from page import Page
@@ -136,9 +136,9 @@ def announced_late(page: Page) -> None:
     """An announcement that is out of date, with a long text and an error."""
     begun(page, source="W" * 300)
     page.browser.run(CHOOSE, "several")
-    put(page, source="W" * 300)
+    page.put(source="W" * 300)
     pressed(page, "save-announcement")
-    put(page, time="")
+    page.put(time="")
     page.browser.run("document.getElementById('save-announcement').click();")
 
 

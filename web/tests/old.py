@@ -4,14 +4,14 @@ import base64
 import re
 import time
 from pathlib import Path
-from typing import Dict, Type
+from typing import Dict
 from urllib.parse import urlparse
 from urllib.request import url2pathname
 
 import checks
 import draws
 from counts import VERSION, Counts
-from drivers import Browser, start
+from drivers import start
 from looks import EMPTY
 from page import Page
 
@@ -75,7 +75,9 @@ def empty_copy(address: str, folder: Path) -> str:
     return (folder / "empty.html").as_uri()
 
 
-def run(counts: Counts, kind: Type[Browser], address: str, folder: Path, program: str, digests: Dict[int, str]) -> None:
+def run(counts: Counts, page: Page, program: str, digests: Dict[int, str]) -> None:
+    """Runs in browsers of the same kind as the page's."""
+    address, folder = page.address, page.folder
     strict, empty = strict_copy(address, folder), empty_copy(address, folder)
 
     def without_any(page: Page) -> None:
@@ -88,10 +90,10 @@ def run(counts: Counts, kind: Type[Browser], address: str, folder: Path, program
         "memory64": lambda page: with_module32(counts, page, program, digests),
     }
     for lost, part in tries.items():
-        browser = start(kind, folder)
+        browser = start(type(page.browser), folder)
         try:
             if lost:
                 browser.lose(lost)
-            part(Page(browser, address, folder))
+            part(Page(browser, address, folder, page.number, page.browsers))
         finally:
             browser.close()

@@ -30,6 +30,6 @@ def run(counts: Counts, page: Page) -> None:
     code = '"use strict";\n' + "".join(build.joined(name, seen) for name in SCRIPTS)
     here = Path(__file__)
     tests = "".join(here.with_name(name).read_text(encoding="utf-8") for name in ("writer1.js", "pieces.js"))
-    for name, found, wanted in page.browser.run(code + tests, ALL_UNSEEN):
+    for name, found, wanted in page.browser.run(code + tests, page.share(ALL_UNSEEN)):
         counts.same(name, found, wanted)
     names(counts, page)

@@ -4,11 +4,11 @@ import re
 import shlex
 import subprocess
 import time
-from itertools import permutations
+from itertools import permutations, product
 from typing import Dict, List
 
 from announcements import KNOWN, LIST, SEED
-from announcing import put, seen
+from announcing import seen
 from counts import Counts, lots, sha256
 from drivers import DriverError
 from page import Page
@@ -72,7 +72,7 @@ def begin(page: Page, tab: str) -> None:
     page.load()
     page.open_file(OTHER_LIST)
     page.facts()
-    put(page, check_text="the record before", check_announcement="the announcement before")
+    page.put(check_text="the record before", check_announcement="the announcement before")
     page.tab(tab)
 
 
@@ -91,24 +91,24 @@ def wait_for(page: Page, wanted: Dict[str, bytes]) -> None:
 def together(counts: Counts, page: Page, texts: Dict[str, bytes]) -> None:
     """One to three files, in any order, anywhere on the page. Two of one kind are refused, and then none is taken."""
     begin(page, "check")
-    for number in (1, 2, 3):
-        for kinds in permutations(KINDS, number):
-            for place in ("check-hint", *(["check-announcement", "check-text", "list-step"] if number > 1 else [])):
-                put(page, check_text="the record before", check_announcement="the announcement before")
-                page.open_file(OTHER_LIST)
-                wait_for(page, BEFORE)
-                wanted = {**BEFORE, **{kind: texts[kind] for kind in kinds}}
-                if "list" in kinds:
-                    wanted["list"] = sha256(LIST).encode()
-                drop_all(page, place, [(f"{kind}.txt", texts[kind]) for kind in kinds])
-                try:
-                    wait_for(page, wanted)
-                except DriverError:
-                    pass
-                counts.same(f"{kinds} dropped on {place}", held(page), wanted)
-                if number == 3:
-                    shown = page.check_again()
-                    counts.same(f"{kinds} are checked", [shown["outcome"], shown["warned"]], ["agrees", []])
+    dropped = [(kinds, place) for number in (1, 2, 3) for kinds in permutations(KINDS, number)
+               for place in ("check-hint", *(["check-announcement", "check-text", "list-step"] if number > 1 else []))]
+    for kinds, place in page.share(dropped):
+        page.put(check_text="the record before", check_announcement="the announcement before")
+        page.open_file(OTHER_LIST)
+        wait_for(page, BEFORE)
+        wanted = {**BEFORE, **{kind: texts[kind] for kind in kinds}}
+        if "list" in kinds:
+            wanted["list"] = sha256(LIST).encode()
+        drop_all(page, place, [(f"{kind}.txt", texts[kind]) for kind in kinds])
+        try:
+            wait_for(page, wanted)
+        except DriverError:
+            pass
+        counts.same(f"{kinds} dropped on {place}", held(page), wanted)
+        if len(kinds) == len(KINDS):
+            shown = page.check_again()
+            counts.same(f"{kinds} are checked", [shown["outcome"], shown["warned"]], ["agrees", []])
 
 
 def two_of_a_kind(counts: Counts, page: Page, texts: Dict[str, bytes]) -> None:
@@ -160,7 +160,7 @@ def opened(counts: Counts, page: Page, texts: Dict[str, bytes]) -> None:
             counts.same(f"a {kind} opened, {name}", held(page), wanted)
             counts.same(f"a {kind} opened, {name}: told", page.browser.run("return window.told;"),
                         f"Opened as the {kind}")
-            put(page, **{"check_text" if kind == "record" else "check_announcement": f"the {kind} before"})
+            page.put(**{"check_text" if kind == "record" else "check_announcement": f"the {kind} before"})
     for data in (texts["record"], old_record(texts["record"].decode()).encode(), b"\xef\xbb\xbf" + texts["record"],
                  re.sub(rb"(?m)^", b"> ", texts["record"]), b"nanorand public draw"):
         for before in (OTHER_LIST, b"", b"Ada\n\nBob\n"):
@@ -191,45 +191,45 @@ def fast(counts: Counts, page: Page, texts: Dict[str, bytes]) -> None:
     """Files that are opened one after another, whichever of them is read first: all are taken, or of one kind the
     last one."""
     other = {kind: data.replace(b"school", b"town").replace(b"Chidi", b"Cid") for kind, data in texts.items()}
-    for first, last in ((one, two) for one in KINDS for two in KINDS):
+    cases = [(first, last, waits, place) for first in KINDS for last in KINDS for waits in ((0, 0), (400, 0), (0, 400))
+             for place in ("list-step", "check-hint")]
+    for first, last, waits, place in page.share(cases):
         wanted = {**BEFORE, first: texts[first], last: other[last]}
         if "list" in (first, last):
             wanted["list"] = sha256(wanted["list"]).encode()
-        for waits, place in ((waits, place) for waits in ((0, 0), (400, 0), (0, 400))
-                             for place in ("list-step", "check-hint")):
-            begin(page, "check")
-            page.browser.run(WAIT)
-            drop(page, place, f"{waits[0]}.txt", texts[first])
-            drop(page, place, f"{waits[1]}.txt", other[last])
-            try:
-                wait_for(page, wanted)
-            except DriverError:
-                pass
-            time.sleep(0.5)
-            counts.same(f"{first} and {last} on {place}, {waits}", held(page), wanted)
+        begin(page, "check")
+        page.browser.run(WAIT)
+        drop(page, place, f"{waits[0]}.txt", texts[first])
+        drop(page, place, f"{waits[1]}.txt", other[last])
+        try:
+            wait_for(page, wanted)
+        except DriverError:
+            pass
+        time.sleep(0.5)
+        counts.same(f"{first} and {last} on {place}, {waits}", held(page), wanted)
 
 
 def three_at_once(counts: Counts, page: Page, texts: Dict[str, bytes]) -> None:
     """Three files opened one after the other, read in any order. A list that was typed before comes back as it was."""
-    for kinds in (("list", "announcement", "record"), ("announcement", "list", "record"),
-                  ("record", "announcement", "list"), ("record", "announcement", "record")):
-        for waits in permutations((0, 300, 600)):
-            page.load()
-            page.paste(OTHER_LIST.decode())
-            page.facts()
-            page.tab("check")
-            page.browser.run(WAIT)
-            for kind, wait in zip(kinds, waits):
-                drop(page, "list-step", f"{wait}.txt", texts[kind])
-            wanted = {"list": sha256(LIST if "list" in kinds else OTHER_LIST).encode(), "record": texts["record"],
-                      "announcement": texts["announcement"]}
-            try:
-                wait_for(page, wanted)
-            except DriverError:
-                pass
-            time.sleep(0.1)
-            name = f"{waits[kinds.index('list')]}.txt, {len(LIST)} bytes" if "list" in kinds else ""
-            counts.same(f"{kinds}, read after {waits}", [held(page), *seen(page, "file-name")], [wanted, name])
+    orders = (("list", "announcement", "record"), ("announcement", "list", "record"),
+              ("record", "announcement", "list"), ("record", "announcement", "record"))
+    for kinds, waits in page.share(product(orders, permutations((0, 300, 600)))):
+        page.load()
+        page.paste(OTHER_LIST.decode())
+        page.facts()
+        page.tab("check")
+        page.browser.run(WAIT)
+        for kind, wait in zip(kinds, waits):
+            drop(page, "list-step", f"{wait}.txt", texts[kind])
+        wanted = {"list": sha256(LIST if "list" in kinds else OTHER_LIST).encode(), "record": texts["record"],
+                  "announcement": texts["announcement"]}
+        try:
+            wait_for(page, wanted)
+        except DriverError:
+            pass
+        time.sleep(0.1)
+        name = f"{waits[kinds.index('list')]}.txt, {len(LIST)} bytes" if "list" in kinds else ""
+        counts.same(f"{kinds}, read after {waits}", [held(page), *seen(page, "file-name")], [wanted, name])
 
 
 def lost(counts: Counts, page: Page, texts: Dict[str, bytes]) -> None:
@@ -255,7 +255,7 @@ def below_a_mail(counts: Counts, page: Page, texts: Dict[str, bytes]) -> None:
                        ("Windows", (b"Hello\n" + texts["record"]).replace(b"\n", b"\r\n")),
                        ("bytes", b"\xff\xfe\n" + texts["record"])):
         begin(page, "check")
-        put(page, check_announcement="")
+        page.put(check_announcement="")
         page.open_file(text)
         page.browser.wait("return document.getElementById('check-text').value !== 'the record before';")
         page.open_file(LIST)
@@ -276,14 +276,14 @@ def announced_in_a_mail(counts: Counts, page: Page, texts: Dict[str, bytes]) -> 
         begin(page, "check")
         page.open_file(LIST)
         page.facts()
-        put(page, check_text=texts["record"].decode(), check_announcement="")
+        page.put(check_text=texts["record"].decode(), check_announcement="")
         page.open_file(text)
         page.browser.wait("return document.getElementById('check-announcement').value;")
         shown = page.check_again()
         counts.same(f"an announcement in {name}", [shown["outcome"], shown["findings"], shown["digest"]],
                     ["no announcement", ["Line 1: the announcement begins in line 3. Remove the lines above it."],
                      sha256(LIST)])
-        put(page, check_announcement=texts["announcement"].decode())
+        page.put(check_announcement=texts["announcement"].decode())
         counts.same(f"{name}: without the lines above it", page.check_again()["outcome"], "agrees")
         begin(page, "draw")
         page.open_file(b"Eve\nUna\n" + texts["announcement"])
@@ -296,7 +296,7 @@ def on_a_field(counts: Counts, page: Page, texts: Dict[str, bytes]) -> None:
     begin(page, "check")
     for name, data in (("a record", texts["record"]), ("a list", LIST), ("empty", b""), ("bytes", bytes(range(256))),
                        ("a record below a text", b"Hello\n" + texts["record"])):
-        put(page, check_announcement="the announcement before")
+        page.put(check_announcement="the announcement before")
         page.browser.run("document.getElementById('check-announcement-error').hidden = true;")
         drop(page, "check-announcement", "some.txt", data)
         page.browser.wait("return document.getElementById('check-announcement-error').checkVisibility();")
@@ -305,20 +305,20 @@ def on_a_field(counts: Counts, page: Page, texts: Dict[str, bytes]) -> None:
         invalid = page.browser.run("""return ["check-announcement", "check-text"].map((id) =>
             document.getElementById(id).getAttribute("aria-invalid"));""")
         counts.same(f"{name}: which field", invalid, ["true", None])
-        put(page, check_announcement="x")
+        page.put(check_announcement="x")
         counts.same(f"{name}: gone with a text", seen(page, "check-announcement-error"), [""])
     page.browser.run("""window.read = Blob.prototype.arrayBuffer;
         Blob.prototype.arrayBuffer = () => Promise.reject(new Error("a folder"));""")
     for field, error in (("check-announcement", "check-announcement-error"), ("check-text", "record-error"),
                          ("check-hint", "record-error")):
-        put(page, check_text="the record before")
+        page.put(check_text="the record before")
         drop(page, field, "folder", b"")
         page.browser.wait("return document.getElementById(arguments[0]).checkVisibility();", error)
         counts.same(f"a folder on {field}", [*seen(page, error), page.facts()["digest"]],
                     ["The file cannot be read.", sha256(OTHER_LIST)])
     page.browser.run("Blob.prototype.arrayBuffer = window.read;")
     for field in ("check-announcement", "check-text"):
-        put(page, check_text="the record before", check_announcement="")
+        page.put(check_text="the record before", check_announcement="")
         drop(page, field, "some.txt", texts["announcement"])
         page.browser.wait("return document.getElementById('check-announcement').value;")
         counts.same(f"an announcement on {field}", held(page), {**BEFORE, "announcement": texts["announcement"]})
@@ -367,13 +367,13 @@ def uncompared(counts: Counts, page: Page, texts: Dict[str, bytes]) -> None:
             ("agrees", record, KNOWN, [], compared),
             ("differs", record.replace("Katherine", "Kate"), KNOWN, [], reserves),
             ("differs", record, KNOWN.replace("winners: 3", "winners: 2"), [], reserves)):
-        put(page, check_announcement=announced)
+        page.put(check_announcement=announced)
         shown = page.check(text)
         counts.same(f"{name}, {label}", [shown["outcome"], shown["warned"], *seen(page, "drawn-label")],
                     [name, warned, label])
         said = [one for one in shown["findings"] if "compared. Paste" in one]
         counts.same(f"{name}: not among what agrees", said, [])
-    put(page, check_announcement="")
+    page.put(check_announcement="")
     page.check(f"Hello\n{record}")
     colours = page.browser.run("""
         const colour = (element, kind = "color") => getComputedStyle(element)[kind];
@@ -414,12 +414,12 @@ def marks(counts: Counts, page: Page, texts: Dict[str, bytes]) -> None:
     page.load()
     page.open_file(LIST)
     page.facts()
-    put(page, check_announcement=KNOWN)
+    page.put(check_announcement=KNOWN)
     for number in (0, 1, 2):
         text = "\ufeff" * number + texts["record"].decode()
         pasted = page.check(text)
         for way in ("dropped on the field", "dropped", "opened"):
-            put(page, check_text="")
+            page.put(check_text="")
             if way == "opened":
                 page.open_file(text.encode())
             else:

@@ -4,7 +4,8 @@
     web/tests/run.py LOTS BROWSER.. [--pictures FOLDER] [--only PART]
 
 For example, web/tests/run.py crates/lots/out/lots chromium firefox. LOTS is the program with which the page is
-compared. Each BROWSER is chromium or firefox; all run side by side. The parts are answers, glue, pieces, draws, sizes,
+compared. Each BROWSER is chromium or firefox; all run side by side. Of many cases of one kind, such as random draws,
+each browser runs its share. The parts are answers, glue, pieces, draws, sizes,
 refusals, checks, formats, announcements, announcing, announced, shell, placed, attacks, failures, said, heard, late,
 steps, lists, clerk, looks, files, copies, long and old. The last line is N passed, M failed.
 """
@@ -46,8 +47,8 @@ OUT = Path(__file__).resolve().parent.parent / "dist"
 BROWSERS = {"chromium": Chromium, "firefox": Firefox}
 
 
-def in_browser(kind: type, program: str, pictures: Path, only: str) -> Counts:
-    """Runs the parts in a browser of its own."""
+def in_browser(kind: type, number: int, browsers: int, program: str, pictures: Path, only: str) -> Counts:
+    """Runs the parts in a browser of its own, which has this number among so many browsers."""
     counts = Counts()
     address = (OUT / "nanorand.html").as_uri()
     modules = {64: (OUT / "nanorand_c.wasm").read_bytes(), 32: (OUT / "nanorand_c32.wasm").read_bytes()}
@@ -63,7 +64,7 @@ def in_browser(kind: type, program: str, pictures: Path, only: str) -> Counts:
             counts.place = kind.name
             counts.case("starts", f"{type(error).__name__}: {error}")
             return counts
-        page = Page(browser, address, folder)
+        page = Page(browser, address, folder, number, browsers)
         parts = {
             "answers": lambda: answers.run(counts, page, modules),
             "glue": lambda: glue.run(counts, page, modules),
@@ -90,7 +91,7 @@ def in_browser(kind: type, program: str, pictures: Path, only: str) -> Counts:
             "files": lambda: draws.files(counts, page, program, downloads),
             "copies": lambda: draws.copies(counts, page),
             "long": lambda: draws.long_lists(counts, page, program, module),
-            "old": lambda: old.run(counts, kind, address, folder, program, digests),
+            "old": lambda: old.run(counts, page, program, digests),
         }
         try:
             for part, run in parts.items():
@@ -118,8 +119,9 @@ def main() -> int:
     with tempfile.TemporaryDirectory() as folder, ThreadPoolExecutor() as pool:
         pictures = wanted.pictures or Path(folder)
         pictures.mkdir(exist_ok=True)
-        begun = [pool.submit(in_browser, BROWSERS[browser], program, pictures, wanted.only)
-                 for browser in wanted.browsers]
+        browsers = len(wanted.browsers)
+        begun = [pool.submit(in_browser, BROWSERS[browser], number, browsers, program, pictures, wanted.only)
+                 for number, browser in enumerate(wanted.browsers)]
         found = [browser.result() for browser in begun]
     passed, failed = sum(counts.passed for counts in found), sum(counts.failed for counts in found)
     if passed + failed == 0:

@@ -7,13 +7,14 @@ from typing import Dict, List
 
 from announced import opened
 from announcements import (EXAMPLE, KNOWN, LIST, SEED, TEXTS, mutated, no_text, read, run_checks, some, with_text)
-from announcing import FIELDS, begun, put, saved
+from announcing import FIELDS, begun, saved
 from counts import Counts, Ran, lines_of, lots, sha256
 from formats import ODD, edges, is_text
 from page import Page
 from records import record_of, without_module
 
 PLANS = 80
+RECORDS = 40
 AGREES = b"the record agrees with the list, and names the announcement\n"
 # A quotation mark, a backslash, what a shell would change, letters that look like others, joined emoji, a long text.
 PIECES = ['"', "\\", "\\x41", "$(x) `y` 'z' *", "\u0410\u0430", "l1I|", "\U0001f469\u200d\U0001f469\u200d\U0001f467",
@@ -68,17 +69,17 @@ def both_ways(counts: Counts, page: Page, program: str, module: str, name: str, 
         record_path.write_bytes(text.encode())
         checked = shell(program, ["--check", str(record_path), str(path)], data)
         counts.same(f"{name}: {maker}'s record in the program", [checked.status, checked.output], [0, AGREES])
-        put(page, check_announcement=made.output.decode())
+        page.put(check_announcement=made.output.decode())
         shown = page.check(text)
         counts.same(f"{name}: {maker}'s record on the page", shown["outcome"], "agrees")
 
 
 def plans(counts: Counts, page: Page, program: str, module: str) -> None:
-    """The known example, and odd texts with odd lists."""
+    """The known example, and odd texts with odd lists. Each browser has plans of its own."""
     both_ways(counts, page, program, module, "the example", LIST, FIELDS, SEED)
     counts.same("the example", shell(program, ["--announce", *FIELDS.values()], LIST).output, KNOWN.encode())
-    rng = random.Random(8)
-    for number in range(PLANS):
+    rng = random.Random(8 + page.number)
+    for number in range(PLANS // page.browsers):
         data = LISTS[number % len(LISTS)]
         both_ways(counts, page, program, module, f"plan {number}", data, odd_fields(rng, data), odd(rng))
 
@@ -90,7 +91,7 @@ def read_alike(counts: Counts, page: Page, program: str) -> None:
     texts += [some(rng)._replace(digest=EXAMPLE.digest, entrants=12, winners=3, reserves=1).text() for _ in range(50)]
     texts += [with_text(number, one).text() for one in no_text() for number in rng.sample(TEXTS, 2)]
     path, taken = page.folder / "announcement.txt", 0
-    for text in texts:
+    for text in page.share(texts):
         path.write_bytes(text.encode())
         found = read(text.encode())
         belongs = found is not None and (found.digest, found.entrants, found.winners + found.reserves) == (
@@ -98,15 +99,15 @@ def read_alike(counts: Counts, page: Page, program: str) -> None:
         taken += belongs
         counts.same(f"the program and {text!r}", shell(program, ["--record", SEED, "4", str(path)], LIST).status == 0,
                     belongs)
-    counts.case("some are taken", "" if 50 < taken < 200 else str(taken))
+    counts.case("some are taken", "" if 50 < taken * page.browsers < 200 else str(taken))
 
 
 def by_program(counts: Counts, page: Page, program: str, module: bytes) -> None:
     """What the program writes agrees in the scripts of the page, and with another announcement it does not."""
-    rng = random.Random(10)
+    rng = random.Random(10 + page.number)
     path = page.folder / "announcement.txt"
     pairs = []
-    for _ in range(40):
+    for _ in range(RECORDS // page.browsers):
         fields = {**odd_fields(rng, LIST), "winners": "3", "reserves": "1"}
         made = shell(program, ["--announce", *fields.values()], LIST).output
         path.write_bytes(made)
