@@ -2,16 +2,24 @@
 //! the cipher's description: single blocks; four blocks side by side, as in fills of 256 bytes and
 //! more; and eight, as in fills of 512 bytes and more if the processor has AVX2 and the crate its
 //! feature std.
+//!
+//! The environment variable `NANORAND_STATES` sets how many states there are; `tests/workspace.sh`
+//! takes a million in a release build.
 
 use nanorand_proved::crypto::chacha::{chacha_block, chacha_rounds, chacha_unrounds};
 use nanorand_proved::{ChaCha, Rng};
 
-// A million states: 400,000 as single blocks, and 600,000 as blocks of fills.
-const SINGLE: usize = 400_000;
-const FILLED: usize = 600_000;
+// What is not set by the environment variable.
+const STATES: &str = "10000";
 
 // The numbers of rounds of the three generators. Rarer ones are 0, 2 and the maximum.
 const COMMON: [u8; 3] = [8, 12, 20];
+
+fn number_of_states() -> usize {
+    let asked = std::env::var("NANORAND_STATES");
+    let states = asked.as_deref().unwrap_or(STATES);
+    states.parse().expect("a number of states")
+}
 
 // Random numbers that choose the cases: xorshift, which is not part of this library.
 struct Words(u64);
@@ -147,10 +155,10 @@ fn check_fill<const ROUNDS: u8>(mut rng: ChaCha<ROUNDS>, length: usize) -> usize
     bytes.chunks(64).count()
 }
 
-// Fills of all lengths up to 32 blocks, most of them whole groups of four.
-fn check_fills<const ROUNDS: u8>(words: &mut Words, blocks: usize) {
+// Fills of all lengths up to 32 blocks, most of them whole groups of four: a fifth of the states.
+fn check_fills<const ROUNDS: u8>(words: &mut Words) {
     let mut checked = 0;
-    while checked < blocks {
+    while checked < number_of_states() / 5 {
         let rng = generator::<ROUNDS>(words);
         let length = match words.next() % 4 {
             0 => words.next() as usize % 2048,
@@ -160,10 +168,11 @@ fn check_fills<const ROUNDS: u8>(words: &mut Words, blocks: usize) {
     }
 }
 
+// Two fifths of the states.
 #[test]
 fn single_blocks() {
     let mut words = Words::new();
-    for case in 0..SINGLE {
+    for case in 0..number_of_states() * 2 / 5 {
         let rounds = COMMON[case % 3];
         let state = words.state();
         assert_eq!(block(rounds, state), plain_block(rounds, state));
@@ -202,17 +211,17 @@ fn rounds_and_back() {
 
 #[test]
 fn fills_with_8_rounds() {
-    check_fills::<8>(&mut Words::new(), FILLED / 3);
+    check_fills::<8>(&mut Words::new());
 }
 
 #[test]
 fn fills_with_12_rounds() {
-    check_fills::<12>(&mut Words::new(), FILLED / 3);
+    check_fills::<12>(&mut Words::new());
 }
 
 #[test]
 fn fills_with_20_rounds() {
-    check_fills::<20>(&mut Words::new(), FILLED / 3);
+    check_fills::<20>(&mut Words::new());
 }
 
 #[test]
