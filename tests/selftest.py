@@ -300,8 +300,8 @@ def sums(counts, room):
     made, lines, status = whole(room, "none", "", 0)
     files = [path.name for path in (ROOT / "tests").iterdir() if path.is_file()]
     names = {f"tests/{name}" for name in files if name not in NO_PARTS}
-    # The parts that test both what the kit and what cargo builds run once for each.
-    by_library = {"tests/c.sh", "tests/draw.sh", "tests/lots.sh", "tests/python.sh"}
+    # These parts run once for what the kit builds, and once for what cargo builds.
+    by_library = {"tests/draw.sh", "tests/lots.sh", "tests/python.sh"}
     parts = names - by_library | {f"{name} {library}" for name in by_library for library in ("cargo", "kit")}
     others = {"rt ci", "tests/build.sh library page draw lots", "tests/answers/make.py --check",
               "tools/contracts.py --check", "tools/pictures.py --check", "tools/bodies.py", "tools/mutants.py",
