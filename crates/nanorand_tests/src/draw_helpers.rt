@@ -26,6 +26,13 @@ pub fn buffered_bytes<const N: usize, G: Rng<OUTPUT>, const OUTPUT: usize>(
     bytes
 }
 
+/// Draws bytes of a buffer, each by a request of its own.
+pub fn each_buffered_byte<const N: usize, G: Rng<OUTPUT>, const OUTPUT: usize>(
+    rng: &mut BufferedRng<G, OUTPUT>,
+) -> [u8; N] {
+    each_byte(rng)
+}
+
 /// Draws the next byte of a buffer.
 pub fn buffered_byte<G: Rng<OUTPUT>, const OUTPUT: usize>(rng: &mut BufferedRng<G, OUTPUT>) -> u8 {
     byte(rng)

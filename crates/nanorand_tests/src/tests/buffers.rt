@@ -1,7 +1,7 @@
 //! Buffers around several generators: reseeded, around another buffer, and cloned.
 
 use crate::comparing::equal;
-use crate::draw_helpers::{buffered_byte, buffered_bytes, each_byte};
+use crate::draw_helpers::{buffered_byte, buffered_bytes, each_buffered_byte};
 use nanorand::{BufferedRng, ChaCha20, Pcg64, Rng, SeedableRng, WyRand};
 use std::alloc::AllocError;
 use std::process::Abort;
@@ -12,7 +12,7 @@ use test_support::Steps;
 #[test]
 fn reseeded_behind_the_buffer(rt: HostRuntime) {
     let mut rng = BufferedRng::new(WyRand::new_seed(0x5f89e29b87429bd2));
-    equal(&rt, each_byte(&mut rng), [218, 40, 180, 160, 209]);
+    equal(&rt, each_buffered_byte(&mut rng), [218, 40, 180, 160, 209]);
     equal(&rt, rng.buffered(), 3);
     rng.reseed([0xd3, 0x9b, 0x42, 0x87, 0x9b, 0xe2, 0x89, 0x5f]);
     equal(&rt, buffered_bytes(&mut rng), [126, 3, 231, 179]);
@@ -41,7 +41,7 @@ fn is_cloned<G: Rng<OUTPUT> + Drop, const OUTPUT: usize>(
     rt: &impl Abort,
     mut original: BufferedRng<G, OUTPUT>,
 ) -> Result<(), AllocError> {
-    let _: [u8; 5] = each_byte(&mut original);
+    let _: [u8; 5] = each_buffered_byte(&mut original);
     let mut copy = original.clone()?;
     equal(rt, copy.buffered(), original.buffered());
     let next: [u8; 20] = buffered_bytes(&mut original);
