@@ -150,19 +150,17 @@ async function starts() {
 
 /** The last named entrant may be folded. The line with the number of further entrants is not part of it. */
 function restOfLong() {
-  for (const length of [1, 43, 44, 50, 200]) {
-    for (const left of [1, 5, 10 ** 6]) {
-      for (const [number, base, write] of BOTH) {
-        const named = Array.from({ length: NAMED }, (_, place) => utf8(`${place} ${"x".repeat(length)}`));
-        const record = write({ ...base, entrants: 10 ** 7, drawn: NAMED + left, named });
-        const wanted = named.map(textOf);
-        same(`${left} more than ${NAMED} of ${length} letters`, namedIn(record), wanted);
-        same("a line below", namedIn(`${record}Yours\n`), wanted);
-        const [before, after] = number === 1 ? ["", "y"] : ["\"", "y\""];
-        const folded = record.replace(`${before}\nand ${left} more`, `\n${after}\nand ${left} more`);
-        const isFold = number === 2 || length >= 50;
-        if (isFold) same("a fold", namedIn(folded), [...wanted.slice(0, -1), `${wanted[NAMED - 1]} y`]);
-      }
+  for (const [length, left] of [[1, 1], [43, 5], [44, 10 ** 6], [50, 1], [50, 5], [50, 10 ** 6], [200, 5]]) {
+    for (const [number, base, write] of BOTH) {
+      const named = Array.from({ length: NAMED }, (_, place) => utf8(`${place} ${"x".repeat(length)}`));
+      const record = write({ ...base, entrants: 10 ** 7, drawn: NAMED + left, named });
+      const wanted = named.map(textOf);
+      same(`${left} more than ${NAMED} of ${length} letters`, namedIn(record), wanted);
+      same("a line below", namedIn(`${record}Yours\n`), wanted);
+      const [before, after] = number === 1 ? ["", "y"] : ["\"", "y\""];
+      const folded = record.replace(`${before}\nand ${left} more`, `\n${after}\nand ${left} more`);
+      const isFold = number === 2 || length >= 50;
+      if (isFold) same("a fold", namedIn(folded), [...wanted.slice(0, -1), `${wanted[NAMED - 1]} y`]);
     }
   }
 }
