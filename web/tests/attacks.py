@@ -6,7 +6,7 @@ import re
 from typing import Any, Callable, Dict, List, Tuple
 
 from counts import UNSEEN, Counts, sha256
-from page import Page
+from page import PARTS, Page
 from records import FORMAT1, FORMAT2, OLD_TITLE, TITLE, Layout, old_record, without_module
 
 NAMES = ["Zoë O'Neil-Fisher", "Ada B. Ito", "Finn A1", "Chidi Ivo", "Ona Aa 7", "Max Co-op", "Sofia Ek", "Noa' Ross"]
@@ -43,48 +43,38 @@ LOOKALIKES: "Dict[str, Callable[[str], str]]" = {
     "another dash": instead("-", "\u2010"),
     "upper and lower case": lambda letter: letter.swapcase() if letter.isalpha() else letter,
 }
-# Checks each text with the page's own field and button. The answer: its outcome, and what it says that it checked.
-CHECK_ALL = """
+# Checks each text with the page's own field and button. The answer: its outcome, and what it says that it checked. The
+# page is hidden meanwhile, as laying it out after each check takes two thirds of the time.
+CHECK_ALL = PARTS + """
 const [texts] = arguments;
-const part = (id) => document.getElementById(id);
-part("tab-check").click();
-const enabled = () => new Promise((done) => {
-  const look = () => part("check").disabled ? setTimeout(look, 0) : done();
-  look();
-});
-const checkOne = async (text) => {
-  part("check-text").value = text;
-  part("check-text").dispatchEvent(new Event("input"));
-  part("check").click();
-  await enabled();
+const checked = async (text) => {
+  set("check-text", text);
+  await press("check");
   const { outcome } = part("outcome").hidden ? {} : part("outcome").dataset;
   const reading = part("reading").hidden ? [] : ["announcement", "seed", "list", "count", "drawn"]
     .map((name) => `reading-${name}`).map((id) => part(id).innerText);
   return [outcome ?? "", reading];
 };
+document.body.hidden = true;
 return (async () => {
   const found = [];
-  for (const text of texts) found.push(await checkOne(text));
+  for (const text of texts) found.push(await checked(text));
+  document.body.hidden = false;
   return found;
 })();
 """
 # The same for lists, with one record.
-CHECK_LISTS = """
+CHECK_LISTS = PARTS + """
 const [lists] = arguments;
-const part = (id) => document.getElementById(id);
-const enabled = () => new Promise((done) => {
-  const look = () => part("check").disabled ? setTimeout(look, 0) : done();
-  look();
-});
+document.body.hidden = true;
 return (async () => {
   const found = [];
   for (const list of lists) {
-    part("list-text").value = list;
-    part("list-text").dispatchEvent(new Event("input"));
-    part("check").click();
-    await enabled();
+    set("list-text", list);
+    await press("check");
     found.push(part("outcome").hidden ? "an error" : part("outcome").dataset.outcome);
   }
+  document.body.hidden = false;
   return found;
 })();
 """

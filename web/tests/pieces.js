@@ -149,8 +149,8 @@ async function starts() {
 }
 
 /** The last named entrant may be folded. The line with the number of further entrants is not part of it. */
-function restOfLong() {
-  for (const [length, left] of [[1, 1], [43, 5], [44, 10 ** 6], [50, 1], [50, 5], [50, 10 ** 6], [200, 5]]) {
+function restOfLong(lengths) {
+  for (const [length, left] of lengths) {
     for (const [number, base, write] of BOTH) {
       const named = Array.from({ length: NAMED }, (_, place) => utf8(`${place} ${"x".repeat(length)}`));
       const record = write({ ...base, entrants: 10 ** 7, drawn: NAMED + left, named });
@@ -523,7 +523,7 @@ versions();
 folds1();
 folds2();
 continuations();
-restOfLong();
+restOfLong(arguments[1]);
 otherTexts();
 alikes();
 farLines();

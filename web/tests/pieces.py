@@ -2,6 +2,7 @@
 characters, spaces, names, encodings, headings, lookalikes."""
 
 import unicodedata
+from itertools import product
 from pathlib import Path
 
 from counts import ALL_UNSEEN, Counts
@@ -30,6 +31,8 @@ def run(counts: Counts, page: Page) -> None:
     code = '"use strict";\n' + "".join(build.joined(name, seen) for name in SCRIPTS)
     here = Path(__file__)
     tests = "".join(here.with_name(name).read_text(encoding="utf-8") for name in ("writer1.js", "pieces.js"))
-    for name, found, wanted in page.browser.run(code + tests, page.share(ALL_UNSEEN)):
+    # How long the entrants of a long record are, and how many more are drawn than it names.
+    long = page.share(product((1, 43, 44, 50, 200), (1, 5, 10**6)))
+    for name, found, wanted in page.browser.run(code + tests, page.share(ALL_UNSEEN), long):
         counts.same(name, found, wanted)
     names(counts, page)

@@ -18,6 +18,7 @@ HIDDEN = """
 E0000-10FFFF
 """
 RANGES = [(int(part.split("-")[0], 16), int(part.split("-")[-1], 16)) for part in HIDDEN.split()]
+ESCAPED = re.compile(r"[\\%s]" % "".join(f"{chr(first)}-{chr(last)}" for first, last in RANGES))
 FIXTURES = Path(__file__).with_name("format1.json")
 
 
@@ -55,10 +56,10 @@ def escaped(data: bytes) -> str:
 def shown(data: bytes) -> str:
     """The text by which a record of format 2 shows some bytes."""
     try:
-        letters = list(data.decode())
+        text = data.decode()
     except UnicodeDecodeError:
         return "".join(chr(byte) if 32 <= byte < 127 and byte != 92 else escaped(bytes([byte])) for byte in data)
-    return "".join(escaped(letter.encode()) if letter == "\\" or is_hidden(letter) else letter for letter in letters)
+    return ESCAPED.sub(lambda letter: escaped(letter[0].encode()), text)
 
 
 def quoted(data: bytes) -> str:

@@ -5,9 +5,9 @@
 
 For example, web/tests/run.py crates/lots/out/lots chromium firefox. LOTS is the program with which the page is
 compared. Each BROWSER is chromium or firefox; all run side by side. Of many cases of one kind, such as random draws,
-each browser runs its share. The parts are answers, glue, pieces, draws, sizes,
-refusals, checks, formats, announcements, announcing, announced, shell, placed, attacks, failures, said, heard, late,
-steps, lists, clerk, looks, files, copies, long and old. The last line is N passed, M failed.
+each browser runs its share. The parts are answers, glue, pieces, draws, sizes, refusals, checks, formats,
+announcements, announcing, announced, shell, placed, attacks, failures, said, heard, late, steps, lists, clerk, looks,
+files, copies, long and old. The last line is N passed, M failed.
 """
 
 import argparse

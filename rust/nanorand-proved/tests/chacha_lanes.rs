@@ -157,8 +157,9 @@ fn check_fill<const ROUNDS: u8>(mut rng: ChaCha<ROUNDS>, length: usize) -> usize
 
 // Fills of all lengths up to 32 blocks, most of them whole groups of four: a fifth of the states.
 fn check_fills<const ROUNDS: u8>(words: &mut Words) {
+    let blocks = number_of_states() / 5;
     let mut checked = 0;
-    while checked < number_of_states() / 5 {
+    while checked < blocks {
         let rng = generator::<ROUNDS>(words);
         let length = match words.next() % 4 {
             0 => words.next() as usize % 2048,
