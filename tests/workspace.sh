@@ -165,7 +165,7 @@ packs_what_it_should() {
 # there, it only runs the tests. Tests in one thread do not wait for each other's counters, which saves a third of the
 # processor time.
 covered() {
-    if tools/uncovered.py --tools >/dev/null; then
+    if [ -n "$can_count" ]; then
         cargo_tests env RUST_TEST_THREADS=1 RUSTFLAGS=-Cinstrument-coverage LLVM_PROFILE_FILE="$1/profiles/%m-%p.profraw" \
             cargo test --offline --target-dir "$1" "${@:2}"
     else
@@ -175,10 +175,10 @@ covered() {
 
 # Fails for any code in these folders that no test has run.
 all_covered() {
-    if tools/uncovered.py --tools >/dev/null; then
+    if [ -n "$can_count" ]; then
         part tools/uncovered.py "$@"
     else
-        skip 'whether tests run all code' "there is no $(tools/uncovered.py --tools | cut -d ' ' -f 1)"
+        skip 'whether tests run all code' "there is no ${counter%% *}"
     fi
 }
 
@@ -208,6 +208,8 @@ export RUSTDOCFLAGS='-D warnings'
 step documented
 unset RUSTDOCFLAGS
 coverage=$PWD/target/coverage
+# What counts the code that tests run, and whether it is there.
+if counter=$(tools/uncovered.py --tools); then can_count=yes; else can_count=; fi
 rm -rf "$coverage/profiles"
 covered "$coverage" --workspace --lib --bins --tests
 covered "$coverage" --release -p nanorand-proved --no-default-features --lib --test chacha_lanes
