@@ -36,6 +36,8 @@ SENTENCES = (
     ("a lifetime that only the allocator has", "nothing", "It is removed together with the allocator."),
     ("the trait `Blocks` and its implementations", "`Rng`",
      "Rust has one trait for both, so that a generator needs only `rand`."),
+    ("`G: Blocks<OUTPUT> + Clone`", "`G: Rng<OUTPUT>`",
+     "In Rattle, `Rng` requires both. In Rust it has the methods of `Blocks` and does not require `Clone`."),
     ("`let P(x) = y else { .. };`", "`let x = if let P(x) = y { x } else { .. };`",
      "Both mean the same; Rust 1.63 supports only the second."),
     ("`uN::random(rng).cast_signed()`", "`uN::random(rng) as iN`",
@@ -174,6 +176,7 @@ def part_in_rust(facet, part):
         return ""
     if facet in ("generics", "conditions", "bounds"):
         part = re.sub(r" [:+] Drop(?!\S)", "", part.replace(": Drop + ", ": "))
+        part = re.sub(r"( : Blocks < \w+ >) \+ Clone$", r"\1", part)
         return "" if facet == "conditions" and " : " not in part else part
     return ERROR.sub("", part) if facet in ("attributes", "parts") else part
 

@@ -338,6 +338,8 @@ class Rules(unittest.TestCase):
             " impl Rng<8> for S { fn rand(&mut self) {} fn f() {} } fn g<G: Rng<N>>() {}",
         )
         self.becomes("trait Other: Blocks<8> {}", "trait Other: Rng<8> {}")
+        self.becomes("impl<G: Blocks<N> + Clone, const N: usize> Rng<N> for S<G> {}",
+                     "impl<G: Rng<N>, const N: usize> Rng<N> for S<G> {}")
 
     def test_bindings(self):
         self.becomes("fn f() { let Some(a) = b else { return c; }; a }",

@@ -3,9 +3,5 @@
 //! `nanorand` shows them.
 #![tactic(auto)]
 
-#[cfg(test)]
-mod comparing;
 pub mod kit_draws;
 pub mod our_draws;
-#[cfg(test)]
-mod tests;

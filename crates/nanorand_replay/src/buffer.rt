@@ -22,7 +22,7 @@ use thiserror::Error;
 /// buffered for the next request. The inner generator may be any generator, including another
 /// `BufferedRng`.
 #[derive(Drop)]
-pub struct BufferedRng<G: Rng<OUTPUT>, const OUTPUT: usize> {
+pub struct BufferedRng<G, const OUTPUT: usize> {
     inner: G,
     block: [u8; OUTPUT],
     cursor: usize,
@@ -31,7 +31,7 @@ pub struct BufferedRng<G: Rng<OUTPUT>, const OUTPUT: usize> {
 // The model of the generator is the pair of the buffered bytes and the inner generator. The
 // buffered bytes are those of the block from the cursor on; the bytes before the cursor have no
 // meaning.
-impl<G: Rng<OUTPUT>, const OUTPUT: usize> Model for BufferedRng<G, OUTPUT> {
+impl<G, const OUTPUT: usize> Model for BufferedRng<G, OUTPUT> {
     ghost use Rattle.std.specs.Prelude.{◌≡◌, ◌<◌, ◌≤◌, length, drop};
     ghost use Rattle.nanorand_replay.specs.generators.Buffered.{Buffered, buffered_code};
 
@@ -54,7 +54,7 @@ pub struct TextRefused;
 #[error("a buffer holds less than a block")]
 pub struct RestTooLong;
 
-impl<G: Rng<OUTPUT>, const OUTPUT: usize> BufferedRng<G, OUTPUT> {
+impl<G: Blocks<OUTPUT>, const OUTPUT: usize> BufferedRng<G, OUTPUT> {
     /// Wraps a generator. The buffer is empty, and nothing is drawn.
     #[inline]
     pub fn new(rng: G) -> Self
@@ -182,7 +182,7 @@ impl<G: Rng<OUTPUT>, const OUTPUT: usize> BufferedRng<G, OUTPUT> {
 /// The clone has the same buffered bytes, and the generator that `clone` of the inner generator
 /// returns. `BufferedRng` itself allocates nothing, so cloning never fails if cloning the inner
 /// generator never does.
-impl<G: Rng<OUTPUT>, const OUTPUT: usize> Clone for BufferedRng<G, OUTPUT> {
+impl<G: Clone, const OUTPUT: usize> Clone for BufferedRng<G, OUTPUT> {
     ghost is_clone = { λ b c. (c.rest ≡ b.rest) × G.is_clone b.inner c.inner };
 
     ghost is_infallible = { λ b. G.is_infallible b.inner };
@@ -220,7 +220,7 @@ impl<G: Rng<OUTPUT> + Eq, const OUTPUT: usize> Eq for BufferedRng<G, OUTPUT> {
         (on_equiv (λ b. b.inner) G.Eq.laws) };
 }
 
-impl<G: Rng<OUTPUT>, const OUTPUT: usize> Blocks<OUTPUT> for BufferedRng<G, OUTPUT> {
+impl<G: Blocks<OUTPUT>, const OUTPUT: usize> Blocks<OUTPUT> for BufferedRng<G, OUTPUT> {
     ghost block = { buffered_block G.block G.step OUTPUT };
 
     ghost step = { buffered_step G.block G.step OUTPUT };
@@ -244,7 +244,7 @@ impl<G: Rng<OUTPUT>, const OUTPUT: usize> Blocks<OUTPUT> for BufferedRng<G, OUTP
         length-buffered_taken G.block G.step OUTPUT G.positive G.block_length b OUTPUT };
 }
 
-impl<G: Rng<OUTPUT>, const OUTPUT: usize> Rng<OUTPUT> for BufferedRng<G, OUTPUT> {
+impl<G: Blocks<OUTPUT> + Clone, const OUTPUT: usize> Rng<OUTPUT> for BufferedRng<G, OUTPUT> {
     ghost requests = { buffered G.block G.step OUTPUT };
 
     #[inline(always)]
@@ -276,7 +276,7 @@ where
 }
 
 /// Wraps the default of the inner generator, by `BufferedRng::new`.
-impl<G: Rng<OUTPUT> + Default, const OUTPUT: usize> Default for BufferedRng<G, OUTPUT> {
+impl<G: Blocks<OUTPUT> + Default, const OUTPUT: usize> Default for BufferedRng<G, OUTPUT> {
     ghost is_default = { λ b. (b.rest ≡ []) × G.is_default b.inner };
 
     fn default() -> Self {
@@ -286,7 +286,7 @@ impl<G: Rng<OUTPUT> + Default, const OUTPUT: usize> Default for BufferedRng<G, O
 
 /// Fills the whole slice as `fill_bytes` does, and returns its length. The stream never ends.
 /// Nothing is guaranteed about the provided methods of `Read`.
-impl<G: Rng<OUTPUT>, const OUTPUT: usize> Read for BufferedRng<G, OUTPUT> {
+impl<G: Blocks<OUTPUT>, const OUTPUT: usize> Read for BufferedRng<G, OUTPUT> {
     fn read(&mut self, buf: &mut [u8]) -> io::Result<usize>
         ensures bound { ReadsAtMost result buf.new }
         ensures bytes { ReadConsumes None None result buf.new }
@@ -302,7 +302,7 @@ impl<G: Rng<OUTPUT>, const OUTPUT: usize> Read for BufferedRng<G, OUTPUT> {
 // Delivers the buffered bytes first, then further blocks, and buffers what the last block leaves
 // over.
 #[inline(always)]
-fn deliver<G: Rng<OUTPUT>, const OUTPUT: usize>(
+fn deliver<G: Blocks<OUTPUT>, const OUTPUT: usize>(
     inner: &mut G,
     block: &mut [u8; OUTPUT],
     cursor: &mut usize,
@@ -344,7 +344,7 @@ fn deliver<G: Rng<OUTPUT>, const OUTPUT: usize>(
 
 // Does the same as `deliver` with an empty buffer, whatever bytes `block` holds, and returns the
 // new cursor.
-fn deliver_blocks<G: Rng<OUTPUT>, const OUTPUT: usize>(
+fn deliver_blocks<G: Blocks<OUTPUT>, const OUTPUT: usize>(
     inner: &mut G,
     block: &mut [u8; OUTPUT],
     out: &mut [u8],

@@ -29,7 +29,7 @@ use std::vec::Vec;
 /// let [low, high] = halves.map(u64::from);
 /// assert_eq!(low + (high << 32), WyRand::seed_from_u64(42).generate());
 /// ```
-pub struct BufferedRng<G: Rng<OUTPUT>, const OUTPUT: usize = 8> {
+pub struct BufferedRng<G, const OUTPUT: usize = 8> {
     inner: G,
     block: [u8; OUTPUT],
     cursor: usize,
@@ -168,7 +168,7 @@ impl<G: Rng<OUTPUT>, const OUTPUT: usize> BufferedRng<G, OUTPUT> {
 
 /// The clone has the same buffered bytes, and the generator that `clone` of the inner generator
 /// returns. `BufferedRng` itself allocates nothing.
-impl<G: Rng<OUTPUT> + Clone, const OUTPUT: usize> Clone for BufferedRng<G, OUTPUT> {
+impl<G: Clone, const OUTPUT: usize> Clone for BufferedRng<G, OUTPUT> {
     fn clone(&self) -> Self {
         BufferedRng {
             inner: self.inner.clone(),

@@ -2,11 +2,11 @@
 //! that `tests/answers/definitions.py` computes. The bytes of the kit's ChaCha20 are the published
 //! keystream of the zero key. The words of its Pcg64 are those in the tests of the Rust crate.
 use crate::comparing::equal;
-use crate::kit_draws::{drawn_by_chacha, drawn_by_wyrand, place, server, ticket};
-use crate::our_draws::{answers_of, deal, kits_number, roll};
 use nanorand::replay::{Answer, Call, Kind, Span};
 use nanorand::{Blocks, ChaCha20, ChaCha20Stream, Pcg64, Rng, WyRand, chacha_stream};
 use nanorand_rand::{ChaChaSeed, Core, FromCore32, FromCore64};
+use nanorand_rand_users::kit_draws::{drawn_by_chacha, drawn_by_wyrand, place, server, ticket};
+use nanorand_rand_users::our_draws::{answers_of, deal, kits_number, roll};
 use rand_chacha::ChaCha20Rng;
 use rand_core::{Rng as CoreRng, Seed, SeedableRng};
 use std::ops::Bound;
