@@ -8,20 +8,23 @@
 #
 # The header must declare the exports and the archives' symbols. With four compilers, and warnings as errors, the header
 # compiles alone and warns of mistakes, and structs have the declared layout in memory. The table of known answers, the
-# edge cases, the classes of C++ and the examples are compiled once and linked with both libraries. Then come two
-# releases in one program, what c/install installs, the crate of the exports, and a check that the tests run all its
-# code. The last line is N passed, M failed.
+# edge cases, the classes of C++ and the examples are compiled once and linked with both libraries. With further
+# standards the table and the edge cases only have to compile. Then come two releases in one program, what c/install
+# installs, the crate of the exports, and a check that the tests run all its code. The last line is N passed, M failed.
 # shellcheck source=tests/lib.sh
 source "$(dirname "${BASH_SOURCE[0]}")/lib.sh"
 # The static library that each of cargo and kit built.
 declare -A archives=()
 warnings=(-Wall -Wextra -pedantic -Werror)
-# Each compiler and the standards to test. All tests use the first standard, some use the others.
+# Each compiler and the standards to test. All tests are run with the first standard, some with the others.
 standards=('gcc c99 c11 c17' 'clang c99 c11 c17' 'g++ c++11 c++17 c++20' 'clang++ c++11 c++17 c++20')
-# The standards of nanorand.hpp, and the warnings that it is free of.
-class_standards=(c++17 c++20 c++2b)
+# The warnings that nanorand.hpp is free of.
 class_warnings=(-Wshadow -Wconversion -Wsign-conversion -Wold-style-cast)
 sanitizers=(-g '-fsanitize=address,undefined' -fno-sanitize-recover=all)
+# The tests of the interface of C. All of them are optimized except the first.
+sources=(c/tests/{layout,edges,guards,numbers,items}.c)
+# The great sizes of edges.c, which depend on the library alone, are tested with the first compiler.
+sizes=()
 
 # Builds and installs the library with rustc and cc.
 by_cargo() {
@@ -97,7 +100,7 @@ prints() {
 
 # All tests with one compiler; $1 is its name and its standards.
 compiler() {
-    local name=${1%% *} package standard first
+    local name=${1%% *} package standard first source
     package=${name/clang++/clang}
     if ! available "$name" "$package"; then
         skip "the C interface by $name" 'it is not there'
@@ -109,26 +112,44 @@ compiler() {
         prints "$name $standard" c/examples/roll.c c/examples/roll.out
         prints "$name $standard" c/examples/deck.c c/examples/deck.out
         tests_of "$name $standard" c/tests/layout.c
-        tests_of "$name $standard" c/tests/edges.c -O2
-        tests_of "$name $standard" c/tests/guards.c -O2
-        tests_of "$name $standard" c/tests/numbers.c -O2
-        tests_of "$name $standard" c/tests/items.c -O2
+        [ "$standard" = "$first" ] || compiles "$name $standard" c/tests/answers.c "${sources[@]}"
     done
-    tests_of "$name $first" "$work/answers.c"
+    for source in "${sources[@]:1}"; do
+        tests_of "$name $first" "$source" -O2 "${sizes[@]}"
+    done
+    sizes=(-DFEW)
+    answers_of "$name $first"
     ! asked_for cargo || warnings_of "$name $first"
-    [[ $first != c++* ]] || classes "$name"
-    sanitized "$name $first"
+    if [[ $first == c++* ]]; then
+        classes "$name"
+    else
+        sanitized "$name $first"
+    fi
 }
 
-# The classes of C++, with the compiler $1. The last standard is tested by the example alone.
+# The compiler and the standard in $1 have no warnings about the sources that follow.
+compiles() {
+    check "$1 compiles the tests" \
+        "$(compile "$1" -fsyntax-only "${@:2}" || echo "it failed: $(head -n 5 "$work/errors")")"
+}
+
+# The table of known answers, as `tests_of` for $1 and flags: each library's program counts every row.
+answers_of() {
+    tests_of "$1" c/tests/answers.c "${@:2}"
+    expect "$1, every row" "$rows" "$(tail -n 1 "$work/log" | awk '{ print $1 + $3 }')"
+}
+
+# The classes of C++, with the compiler $1: all tests as C++17, with sanitizers, and as C++20 without them, and an
+# example as C++23.
 classes() {
-    local standard flags=("${class_warnings[@]}")
+    local flags=("${class_warnings[@]}") sanitized=()
     [ "$1" != g++ ] || flags+=(-Wuseless-cast)
-    for standard in "${class_standards[@]}"; do
-        prints "$1 $standard" c/examples/shuffle.cpp c/examples/shuffle.out
-        prints "$1 $standard" c/examples/threads.cpp c/examples/threads.out -pthread
-        [ "$standard" = c++2b ] || tests_of "$1 $standard" c/tests/cpp.cpp "${flags[@]}"
-    done
+    ! has_sanitizers "$1 c++17" || sanitized=("${sanitizers[@]}")
+    prints "$1 c++17" c/examples/shuffle.cpp c/examples/shuffle.out
+    prints "$1 c++17" c/examples/threads.cpp c/examples/threads.out -pthread
+    tests_of "$1 c++17" c/tests/cpp.cpp "${flags[@]}" "${sanitized[@]}"
+    tests_of "$1 c++20" c/tests/cpp.cpp "${flags[@]}"
+    prints "$1 c++2b" c/examples/shuffle.cpp c/examples/shuffle.out
     ! asked_for cargo || header_of_classes "$1 c++17"
     ! asked_for cargo || warnings_of_classes "$1 c++17"
 }
@@ -142,123 +163,148 @@ header_of_classes() {
         "$(compile "$1" -E -dM -o - c/include/nanorand.hpp | grep NANORAND_CALL)"
 }
 
-# The same with sanitizers, if the compiler has them.
-sanitized() {
+# Whether the compiler in $1 has sanitizers. If not, says so.
+has_sanitizers() {
     printf 'int main(void) { return 0; }\n' >"$work/empty.c"
     if ! compile "$1" "${sanitizers[@]}" -o "$work/empty" "$work/empty.c" || ! "$work/empty"; then
         skip "the sanitizers of ${1%% *}" 'they are not there'
-        return
+        return 1
     fi
-    tests_of "$1" c/tests/layout.c "${sanitizers[@]}"
-    tests_of "$1" c/tests/edges.c "${sanitizers[@]}"
-    tests_of "$1" c/tests/guards.c "${sanitizers[@]}"
-    tests_of "$1" c/tests/numbers.c "${sanitizers[@]}"
-    tests_of "$1" c/tests/items.c "${sanitizers[@]}"
-    tests_of "$1" "$work/answers.c" "${sanitizers[@]}"
-    [[ $1 != *c++* ]] || tests_of "${1%% *} c++17" c/tests/cpp.cpp "${sanitizers[@]}"
 }
 
-# The compiler in $1 warns of the statement $2 with the text $3, or does not warn if $3 is empty, also if the header is
-# in a system folder.
-warns() {
-    local included
-    cat >"$work/warns.c" <<END
+# The tests of C with sanitizers. As C++, which has the same sanitizers, only the classes are tested with them.
+sanitized() {
+    local source
+    has_sanitizers "$1" || return
+    for source in "${sources[@]}"; do
+        tests_of "$1" "$source" "${sanitizers[@]}" "${sizes[@]}"
+    done
+    answers_of "$1" "${sanitizers[@]}"
+}
+
+# Writes a function in C with these statements, each in a line of its own. The first has the number 6.
+statements() {
+    cat <<'END'
 #include "nanorand.h"
 void run(nanorand_pcg64 *rng, nanorand_chacha *state, size_t *items, uint8_t *text);
 void run(nanorand_pcg64 *rng, nanorand_chacha *state, size_t *items, uint8_t *text)
 {
     (void)rng, (void)state, (void)items, (void)text;
-    $2
-}
 END
+    printf '    %s\n' "$@" '}'
+}
+
+# The same in C++, where $work/classes.hpp is included.
+statements_in_cpp() {
+    cat <<'END'
+
+void run(nanorand::WyRand& rng, nanorand::Stream& stream, std::vector<int>& items);
+void run(nanorand::WyRand& rng, nanorand::Stream& stream, std::vector<int>& items)
+{
+    (void)rng, (void)stream, (void)items;
+END
+    printf '    %s\n' "$@" '}'
+}
+
+# The compiler in $1 warns of each of the statements from $3 on, which $work/warns.c has, with the text $2, and of
+# nothing else. If $2 is empty, it has no warnings.
+warned() {
+    local line=6 statement
+    if [ -z "$2" ]; then
+        check "$1: no warnings" "$(compile "$1" "${also[@]}" -c -o "$work/warns.o" "$work/warns.c" ||
+            head -n 5 "$work/errors")"
+        return
+    fi
+    check "$1: $2" "$(compile "$1" "${also[@]}" -Wno-error -c -o "$work/warns.o" "$work/warns.c" ||
+        head -n 5 "$work/errors")"
+    for statement in "${@:3}"; do
+        check "$1: $statement" \
+            "$(grep -q "warns\.c:$line:.* warning: .*$2" "$work/errors" || echo 'the compiler does not warn')"
+        line=$((line + 1))
+    done
+    expect "$1: all warnings" $(($# - 2)) "$(grep -c 'warning:' "$work/errors")"
+}
+
+# The same for statements in C, also if the header is in a system folder.
+warns() {
+    local included also=()
+    statements "${@:3}" >"$work/warns.c"
     for included in -I -isystem; do
         warned "$@"
     done
 }
 
-# The compiler reports the text $3 for $work/warns.c, in which the statement $2 is, or nothing if $3 is empty.
-warned() {
-    if compile "$1" -c -o "$work/warns.o" "$work/warns.c"; then
-        check "$1: $2" "${3:+the compiler does not warn}"
-    elif [ -z "$3" ] || ! grep -qF "$3" "$work/errors"; then
-        check "$1: $2" "it failed: $(head -n 5 "$work/errors")"
-    else
-        check "$1: $2" ''
-    fi
+# Puts what is before and after each of the texts from $3 on into the list `calls`.
+calls_of() {
+    calls=("${@:3}")
+    calls=("${calls[@]/#/$1}")
+    calls=("${calls[@]/%/$2}")
 }
 
 # The compiler warns of a null pointer to a state, a number or a block, and of a status that is not read. It does not
 # warn of a null pointer to an empty array.
 warnings_of() {
-    local call
-    for call in 'pcg64_u64(NULL)' 'pcg64_f64(NULL)' 'pcg64_below(NULL, 6)' 'pcg64_fill_bytes(NULL, text, 1)' \
-        'pcg64_jump(rng, NULL)' 'chacha8_block(state, NULL)' 'stream_new_key(NULL, text)' \
-        'chacha_new_key(text, NULL)' 'lots_digest(text, 1, NULL)'; do
-        warns "$1" "nanorand_$call;" nonnull
-    done
-    for call in 'pcg64_range_usize(rng, 1, 6, NULL)' 'pcg64_shuffle(NULL, items, 1)' \
+    local calls returned='if (nanorand_' read=' != 0) { return; }'
+    calls_of nanorand_ ';' 'pcg64_u64(NULL)' 'pcg64_f64(NULL)' 'pcg64_below(NULL, 6)' \
+        'pcg64_fill_bytes(NULL, text, 1)' 'pcg64_jump(rng, NULL)' 'chacha8_block(state, NULL)' \
+        'stream_new_key(NULL, text)' 'chacha_new_key(text, NULL)' 'lots_digest(text, 1, NULL)'
+    warns "$1" nonnull "${calls[@]}"
+    calls_of "$returned" "$read" 'pcg64_range_usize(rng, 1, 6, NULL)' 'pcg64_shuffle(NULL, items, 1)' \
         'pcg64_shuffle_items(NULL, text, 1, 1)' 'pcg64_shuffle_bytes(NULL, text, 1, 1)' 'pcg64_part(NULL, 1, 1)' \
-        'pcg64_distance(rng, NULL, rng)' 'lots_count(text, 1, NULL)'; do
-        warns "$1" "if (nanorand_$call != 0) { return; }" nonnull
-    done
-    for call in 'pcg64_range_usize(rng, 1, 6, items)' 'pcg64_shuffle(rng, items, 1)' \
+        'pcg64_distance(rng, NULL, rng)' 'lots_count(text, 1, NULL)'
+    warns "$1" nonnull "${calls[@]}"
+    calls_of nanorand_ ';' 'pcg64_range_usize(rng, 1, 6, items)' 'pcg64_shuffle(rng, items, 1)' \
         'pcg64_shuffle_items(rng, text, 1, 1)' 'pcg64_shuffle_bytes(rng, text, 1, 1)' \
         'pcg64_sample(rng, 1, items, 1)' 'pcg64_part(rng, 1, 1)' 'pcg64_distance(rng, rng, rng)' \
-        'lots_count(text, 1, items)' 'lots_draw(text, 1, items, 1, 1)'; do
-        warns "$1" "nanorand_$call;" unused-result
-    done
-    for call in 'pcg64_shuffle(rng, NULL, 0)' 'pcg64_shuffle_items(rng, NULL, 0, 8)' \
-        'pcg64_sample(rng, 1, NULL, 0)' 'lots_count(NULL, 0, items)' 'lots_draw(NULL, 0, NULL, 0, 0)'; do
-        warns "$1" "if (nanorand_$call != 0) { return; }" ''
-    done
-    warns "$1" 'nanorand_pcg64_fill_bytes(rng, NULL, 0);' ''
-    warns "$1" 'nanorand_lots_digest(NULL, 0, text);' ''
+        'lots_count(text, 1, items)' 'lots_draw(text, 1, items, 1, 1)'
+    warns "$1" unused-result "${calls[@]}"
+    calls_of "$returned" "$read" 'pcg64_shuffle(rng, NULL, 0)' 'pcg64_shuffle_items(rng, NULL, 0, 8)' \
+        'pcg64_sample(rng, 1, NULL, 0)' 'lots_count(NULL, 0, items)' 'lots_draw(NULL, 0, NULL, 0, 0)'
+    warns "$1" '' "${calls[@]}" 'nanorand_pcg64_fill_bytes(rng, NULL, 0);' 'nanorand_lots_digest(NULL, 0, text);'
 }
 
-# The compiler in $1 reports the text $3 for the statement $2 in C++, or nothing if $3 is empty.
-warns_in_cpp() {
-    cat >"$work/warns.c" <<END
-#include "nanorand.hpp"
-#include <list>
-void run(nanorand::WyRand& rng, nanorand::Stream& stream, std::vector<int>& items);
-void run(nanorand::WyRand& rng, nanorand::Stream& stream, std::vector<int>& items)
-{
-    (void)rng, (void)stream, (void)items;
-    $2
-}
-END
-    warned "$@"
+# The compiler in $1 reports the text $3 for the statement $2 in C++.
+refuses() {
+    statements_in_cpp "$2" >"$work/warns.c"
+    check "$1: $2" "$(! compile "$1" "${also[@]}" -c -o "$work/warns.o" "$work/warns.c" &&
+        grep -qF "$3" "$work/errors" || echo "it does not report $3: $(head -n 5 "$work/errors")")"
 }
 
 # The same, and the compiler in $1 reports no other error.
 only_error() {
-    warns_in_cpp "$@"
+    refuses "$@"
     check "$1: $2: the only error" "$(grep 'error:' "$work/errors" | grep -vF "$3")"
 }
 
-# The compiler warns if a number is drawn and not used. Mistakes in types are errors with a text for users.
+# The compiler warns if a number is drawn and not used. Mistakes in types are errors with a text for users. The header
+# is compiled once, before the statements.
 warnings_of_classes() {
-    local call
-    for call in 'rng.range(1, 6)' 'rng.try_range(1, 6)' 'rng.below(6)' 'rng.f64()' 'rng.choose(items)' \
+    local call calls also=(-include "$work/classes.hpp")
+    rm -f "$work/classes.hpp.gch"
+    printf '#include <%s>\n' nanorand.hpp list >"$work/classes.hpp"
+    check "$1: the header before" "$(compile "$1" -c -x c++-header -o "$work/classes.hpp.gch" "$work/classes.hpp" ||
+        head -n 5 "$work/errors")"
+    calls_of '' ';' 'rng.range(1, 6)' 'rng.try_range(1, 6)' 'rng.below(6)' 'rng.f64()' 'rng.choose(items)' \
         'rng.sample(6, 2)' 'rng.part(1, 1)' 'rng.distance(rng)' 'rng.state()' 'rng.min()' 'nanorand::Pcg64::max()' \
         'nanorand::WyRand::from_seed(1)' 'nanorand::Pcg64::from_seed(1, 2)' 'nanorand::WyRand::from_state({1})' \
         'nanorand::Stream::from_key({})' 'nanorand::ChaCha8(1).block()' 'nanorand::lots::draw("seed", 3, 1)' \
-        'nanorand::lots::count("")' 'nanorand::lots::digest("")'; do
-        warns_in_cpp "$1" "$call;" unused-result
-    done
-    for call in 'rng()' 'rng.shuffle(items)' 'rng.discard(1)' 'rng.fill(items.data(), 4)'; do
-        warns_in_cpp "$1" "$call;" ''
-    done
-    warns_in_cpp "${1% *} c++11" 'rng();' 'needs C++17'
+        'nanorand::lots::count("")' 'nanorand::lots::digest("")'
+    statements_in_cpp "${calls[@]}" >"$work/warns.c"
+    warned "$1" unused-result "${calls[@]}"
+    calls_of '' ';' 'rng()' 'rng.shuffle(items)' 'rng.discard(1)' 'rng.fill(items.data(), 4)'
+    statements_in_cpp "${calls[@]}" >"$work/warns.c"
+    warned "$1" '' "${calls[@]}"
+    check "${1% *} c++11" "$(! compile "${1% *} c++11" -fsyntax-only c/include/nanorand.hpp &&
+        grep -qF 'needs C++17' "$work/errors" || head -n 5 "$work/errors")"
     for call in WyRand Pcg64 ChaCha8 ChaCha12 ChaCha20 Keystream Stream; do
-        warns_in_cpp "$1" "nanorand::$call unseeded;" "a seed is needed, such as $call rng(42)"
+        refuses "$1" "nanorand::$call unseeded;" "a seed is needed, such as $call rng(42)"
     done
-    warns_in_cpp "$1" 'nanorand::WyRand converted = 42;' 'conversion'
-    warns_in_cpp "$1" '(void)stream.part(1, 1);' 'a Stream has no parts: use Keystream'
-    warns_in_cpp "$1" 'rng.fill(items);' 'fill takes bytes that can be written'
-    warns_in_cpp "$1" 'const char text[4] = ""; rng.fill(text);' 'fill takes bytes that can be written'
-    warns_in_cpp "$1" '(void)rng.range(0, items.size());' 'no matching'
-    warns_in_cpp "$1" '(void)rng.choose(std::vector<int>{1, 2});' 'a temporary would dangle: give the container a name'
+    refuses "$1" 'nanorand::WyRand converted = 42;' 'conversion'
+    refuses "$1" '(void)stream.part(1, 1);' 'a Stream has no parts: use Keystream'
+    refuses "$1" 'rng.fill(items);' 'fill takes bytes that can be written'
+    refuses "$1" 'const char text[4] = ""; rng.fill(text);' 'fill takes bytes that can be written'
+    refuses "$1" '(void)rng.range(0, items.size());' 'no matching'
+    refuses "$1" '(void)rng.choose(std::vector<int>{1, 2});' 'a temporary would dangle: give the container a name'
     # The text for users is the only error.
     local integers='range draws integers of at most 64 bits; for a'
     only_error "$1" '(void)rng.range(1.0, 2.0);' "$integers floating-point number, use f64()"
@@ -339,7 +385,7 @@ all_exports_run() {
     export LLVM_PROFILE_FILE=$target/profiles/%m-%p.profraw
     RUSTFLAGS=-Cinstrument-coverage cargo build --quiet --offline --target-dir "$target" --manifest-path rust/nanorand-c/Cargo.toml
     # The crate has no std, so nothing unwinds.
-    for source in c/tests/{edges,guards,items,layout,numbers}.c "$work/answers.c"; do
+    for source in "${sources[@]}" c/tests/answers.c; do
         cc -DFEW -Ic/include -Ic/tests -o "$target/debug/deps/$(basename "$source" .c)" "$source" "$target/debug/libnanorand.a" \
             -Wl,--defsym=rust_eh_personality=0 -Wl,--undefined=__llvm_profile_runtime
         quiet_part "$source, counted" "$target/debug/deps/$(basename "$source" .c)"
@@ -351,9 +397,8 @@ all_exports_run() {
 ! asked_for cargo || by_cargo
 ! asked_for kit || by_the_kit
 part tools/header.py --check "${archives[@]}"
-c/tests/answers.py tests/answers/answers.tsv >"$work/answers.c" || check 'the table of answers' 'it is not read'
+# The rows of the table of known answers. Most of those of `stream` are used twice.
 rows=$(awk -F '\t' '!/^#/ { rows += $1 == "stream" && $3 != "part" ? 2 : 1 } END { print rows }' tests/answers/answers.tsv)
-check 'every row' "$([ "$(grep -c '^    row_[0-9]*();$' "$work/answers.c")" -eq "$rows" ] || echo 'a row is not called')"
 for words in "${standards[@]}"; do
     compiler "$words"
 done

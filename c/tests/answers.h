@@ -1,4 +1,4 @@
-/* Parts of the program that c/tests/answers.py writes: the table's states, and guarded arrays. */
+/* Parts of answers.c: counted rows, guarded arrays, and the table's states. */
 #ifndef ANSWERS_H
 #define ANSWERS_H
 
@@ -7,7 +7,7 @@
 
 #include "nanorand.h"
 
-enum { MOST = 1 << 16, GUARD = 0xee };
+enum { MOST = 1 << 12, GUARD = 0xee };
 
 static unsigned passed = 0;
 static unsigned failed = 0;
@@ -19,13 +19,13 @@ static size_t items[MOST + 2];
 static size_t *const inner_items = items + 1;
 static size_t table[MOST]; /* The table for drawing a sample. It begins with what the last call left. */
 
-static void check(unsigned row, const char *call, int holds)
+static void check(unsigned row, const char *generator, const char *call, int holds)
 {
     if (holds) {
         passed++;
     } else {
         failed++;
-        printf("FAILED row %u: %s\n", row, call);
+        printf("FAILED row %u: %s, %s\n", row, generator, call);
     }
 }
 

@@ -26,7 +26,7 @@ HOLDS(lots_too_few, NANORAND_LOTS_TOO_FEW == 3);
 HOLDS(lots_empty_line, NANORAND_LOTS_EMPTY_LINE == 4);
 HOLDS(lots_exhausted, NANORAND_LOTS_EXHAUSTED == 8);
 
-#ifdef FEW /* for runs that are counted (code coverage), which are slow */
+#ifdef FEW /* for runs that are slow or repeated, as the library alone computes these */
 enum { LARGE = (1 << 14) + 1, ITEMS = (1 << 10) + 3, GREATEST = (1 << 17) + 1 };
 #else
 enum { LARGE = (1 << 22) + 1, ITEMS = (1 << 18) + 3, GREATEST = (1 << 21) + 1 };
