@@ -62,9 +62,9 @@ class Index:
         return not self.number
 
 
-def once_for_each_library(test):
-    """Marks a long test of what calls answer. `tests/python.sh` runs it once over each library: it sets NANORAND_SHORT
-    for its runs by the system's Python, which leave the test out."""
+def once(test):
+    """Marks a long test of what depends neither on the library nor on Python's version. `tests/python.sh` sets
+    NANORAND_SHORT for all runs but one, over rustc's library if there is rustc, which leave the test out."""
     return None if "NANORAND_SHORT" in os.environ else test
 
 

@@ -4,7 +4,7 @@ import hashlib
 import random
 import unittest
 
-from makers import once_for_each_library, views_of
+from makers import once, views_of
 from nanorand import NanorandError, OutOfBounds, _native, lots
 from nanorand.errors import EmptyLine, EmptySeed, SeedNotText, TooFew
 
@@ -63,7 +63,7 @@ class Lots(unittest.TestCase):
             self.assertEqual(lots.draw("seed", text), lots.draw("seed", lines))
             self.assertEqual(lots.draw("seed", bytearray(text)), lots.draw("seed", memoryview(text)))
 
-    @once_for_each_library
+    @once
     def test_many_lines(self):
         """More than 2^20 and more than 2^21 lines: each is an entrant."""
         for count in (2**20 + 1, 2**21 + 1):
@@ -153,7 +153,7 @@ class Lots(unittest.TestCase):
                 with self.assertRaises(TypeError):
                     call(text)
 
-    @once_for_each_library
+    @once
     def test_more_bytes_than_32_bits_count(self):
         """The bytes are zeros, which take no memory until they are written."""
         wanted = "fbb82f7b353676bb562eb82157fcf0ea42c36492ca13ee56dbf82c08b6802c5c"

@@ -21,7 +21,7 @@ try:
 except ImportError:
     _testcapi = None
 
-from makers import CLASSES, KEY, NONCE, RANDOMS, generators
+from makers import CLASSES, KEY, NONCE, RANDOMS, generators, once
 
 from nanorand import ChaCha8, Generator, Pcg64, Stream, WyRand, _native, lots
 from nanorand.randoms import WyRandRandom
@@ -340,6 +340,7 @@ class Leaks(unittest.TestCase):
                 with self.subTest(name="draw", kind=type(text).__name__):
                     self.keeps_nothing(refused, lots.draw, seed, text)
 
+    @once
     def test_long_memory(self):
         """Arrays that are too large for Python's own allocator, measured by the memory of the process."""
         rng, items, buffer = WyRand(5), list(range(50_000)), bytearray(400_000)
@@ -506,6 +507,7 @@ class NoMemory(unittest.TestCase):
             _testcapi.remove_mem_hooks()
         return False
 
+    @once
     def test_nothing_is_kept(self):
         """Only calls without Python code, which keeps some references itself. Python has others to None meanwhile."""
         for rng in (WyRand(1), Pcg64(1), ChaCha8(KEY), Stream(KEY)):

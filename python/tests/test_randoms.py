@@ -12,7 +12,7 @@ import sys
 import unittest
 import weakref
 
-from makers import COPIES, KEY, RANDOMS, Index, refuses, stays_itself
+from makers import COPIES, KEY, RANDOMS, Index, once, refuses, stays_itself
 
 from nanorand import OutOfBounds, Pcg64, Stream, WrongLength, WyRand
 from nanorand.errors import ForeignState
@@ -207,6 +207,7 @@ class Randoms(unittest.TestCase):
                 seen.add(made.state)
             self.assertEqual(len(seen), 8 + len(seeds))
 
+    @once
     def test_neighbouring_seeds_are_unrelated(self):
         """The first numbers of the seeds 0, 1, 2, .. vary together by no more than the noise of 10^5 seeds."""
         count = 100_000
