@@ -6,8 +6,8 @@
 #     tests/python.sh cargo    tests everything else
 #
 # For each library it builds the wheel in two folders, installs it into new environments of python3 and of the system's
-# Python, without the kit, and runs python/tests there. It also builds the wheel from the source distribution, with an
-# older rustc, and for an editable installation. The last line is N passed, M failed.
+# Python, without the kit, and runs python/tests there, the long tests once. It also builds the wheel from the source
+# distribution, with an older rustc, and for an editable installation. The last line is N passed, M failed.
 # shellcheck source=tests/lib.sh
 source "$(dirname "${BASH_SOURCE[0]}")/lib.sh"
 unset NANORAND_LIBRARY PYTHONPATH
@@ -36,10 +36,27 @@ build_in_another_place() {
     (cd "$work/another place/of the same/sources" && python/build.py "$1")
 }
 
+# Makes a new environment of the Python $1 in the folder $2. Further arguments go to venv. Its pip is that of the first
+# environment of this Python, as making one takes seconds. A pip before 22.3 serves its own environment alone.
+new_environment() {
+    local first=$work/pips/${1//\//.}
+    if [ ! -e "$first" ]; then
+        "$1" -m venv "$first" || return
+        "$first/bin/pip" --python "$first/bin/python" --version || rm "$first/bin/pip"
+    fi
+    if [ ! -e "$first/bin/pip" ]; then
+        "$1" -m venv "${@:3}" "$2"
+        return
+    fi
+    "$1" -m venv --without-pip "${@:3}" "$2" || return
+    printf '#!/bin/sh\nexec "%s" --python "%s" "$@"\n' "$first/bin/pip" "$2/bin/python" >"$2/bin/pip"
+    chmod +x "$2/bin/pip"
+}
+
 # Makes a new environment of the Python $1 in the folder $2, with the wheel in the folder $3. Further arguments go to
 # venv.
 environment() {
-    "$1" -m venv "${@:4}" "$2" && "$2/bin/pip" install "${pip[@]}" "$3"/*.whl
+    new_environment "$1" "$2" "${@:4}" && "$2/bin/pip" install "${pip[@]}" "$3"/*.whl
 }
 
 # The wheel's module runs on every processor that the wheel's tag names. The objects of chacha20 and of keystream both
@@ -63,6 +80,11 @@ over() {
     [ "$1" = kit ] || step runs_everywhere "$room/one"
     step environment python3 "$room/env" "$room/one"
     unit_tests "python/tests over $1's library" in_tests "$room/env/bin/python"
+}
+
+# Whether rustc can build the library.
+has_rustc() {
+    command -v rustc >/dev/null && [ -e rust/nanorand-c ]
 }
 
 # Runs unittest with the Python $1 in the copy of the tests.
@@ -149,7 +171,7 @@ counted() {
     step counting own python/build.py "$room/own/wheel"
     step environment "$system" "$room/own/env" "$room/own/wheel" --system-site-packages
     step in_python own -m coverage run --rcfile "$PWD/pyproject.toml" -m unittest
-    step in_python own -m unittest test_memory.NoMemory test_numpy.Memory
+    step without_memory
     NANORAND_LIBRARY=$work/refusing/refusing.a \
         step counting refusing python/build.py "$room/refusing/wheel"
     step environment "$system" "$room/refusing/env" "$room/refusing/wheel" --system-site-packages
@@ -168,6 +190,11 @@ counting() {
 # Runs the Python of the environment in the folder $1, in the copy of the tests.
 in_python() {
     (cd "$work/tests/python/tests" && COVERAGE_FILE=$work/counted/data "$work/counted/$1/env/bin/python" "${@:2}")
+}
+
+# Runs the tests in which allocations fail, also the long one.
+without_memory() {
+    (unset NANORAND_SHORT && in_python own -m unittest test_memory.NoMemory test_numpy.Memory)
 }
 
 all_python_counted() {
@@ -193,7 +220,7 @@ stubs_are_right() {
 
 # Has pip, with the Python $1, install $2 into the new environment $3. Further arguments are options of pip.
 pip_installs() {
-    "$1" -m venv "$3" && "$3/bin/pip" install "${pip[@]}" "${@:4}" "$2" &&
+    new_environment "$1" "$3" && "$3/bin/pip" install "${pip[@]}" "${@:4}" "$2" &&
         [ "$("$3/bin/python" -I -c 'import nanorand; print(nanorand.WyRand(42).range(1, 100))')" = 69 ]
 }
 
@@ -222,7 +249,8 @@ readme_examples() {
     "$1" -I -m doctest python/README.md
 }
 
-# Builds the source distribution, and from it, in another folder, the wheel that the repository makes.
+# Builds the source distribution, and from it, in another folder, the wheel that the repository makes. pip also installs
+# it without isolation, with the library that c/install built.
 by_source_distribution() {
     local room=$work/sdist archive other=/usr/bin/python3
     [ -x "$other" ] || other=python3
@@ -230,32 +258,31 @@ by_source_distribution() {
     archive=$(echo "$room"/one/*.tar.gz)
     step build_sdist "$room/two" "$other"
     step cmp "$archive" "$room/two/${archive##*/}"
-    step pip_installs python3 "$archive" "$room/env"
-    step readme_examples "$room/env/bin/python"
-    step pip_installs python3 "$archive" "$room/env_of_same" --no-build-isolation
-    step "$room/env/bin/pip" wheel "${pip[@]}" --wheel-dir "$room/wheel" "$archive"
+    step "$work/cargo/env/bin/pip" wheel "${pip[@]}" --wheel-dir "$room/wheel" "$archive"
     step same_bytes "$room/wheel" "$work/cargo/two"
+    step pip_installs python3 "$(echo "$room"/wheel/*.whl)" "$room/env"
+    step readme_examples "$room/env/bin/python"
+    NANORAND_LIBRARY=$library step pip_installs python3 "$archive" "$room/env_of_same" --no-build-isolation
 }
 
-# The command of the package `build` makes the same two files. It builds the wheel from the source distribution.
+# The command of the package `build` makes the same source distribution, and from it the wheel in the folder $1, with
+# the library that NANORAND_LIBRARY names.
 by_build() {
     local room=$work/build
-    if ! available /usr/lib/python3/dist-packages/build python3-build ||
-        ! can_build /usr/bin/python3; then
-        skip 'python -m build' "it, its venv or Python.h is not there"
+    if ! [ -e "$work/sdist/one" ] || ! available /usr/lib/python3/dist-packages/build python3-build; then
+        skip 'python -m build' 'it or the source distribution is not there'
         return
     fi
-    step /usr/bin/python3 -m build --outdir "$room" .
+    step "$system" -m build --outdir "$room" .
     step cmp "$(echo "$work"/sdist/one/*.tar.gz)" "$room"/*.tar.gz
-    step /usr/bin/python3 python/build.py "$work/of_system"
-    step cmp "$work"/of_system/*.whl "$room"/*.whl
+    step cmp "$1"/*.whl "$room"/*.whl
 }
 
-# An editable installation takes up a change to a Python file at once.
+# An editable installation, with that library, takes up a change to a Python file at once.
 by_editable() {
     local sources="$work/another place/of the same/sources" room=$work/editable
     step another_place
-    step pip_installs python3 "$sources" "$room" --editable
+    NANORAND_LIBRARY=$library step pip_installs python3 "$sources" "$room" --editable
     step in_tests "$room/bin/python" test_numbers test_surface
     echo 'changed = 6' >>"$sources/python/nanorand/errors.py"
     step "$room/bin/python" -I -c 'import nanorand; assert nanorand.errors.changed == 6'
@@ -321,27 +348,30 @@ if asked_for kit && command -v rt >/dev/null; then
 fi
 PATH=$(path_without_kit)
 export PATH
-if [ -z "$kit" ] && ! { command -v rustc && [ -e rust/nanorand-c ]; } >/dev/null; then
+if [ -z "$kit" ] && ! has_rustc; then
     skip_all "$package" 'there is neither a kit nor rustc to build the static library'
 fi
 copy_of_tests
 with_its_tests python3
 if [ -n "$kit" ]; then
+    # The long tests are run over rustc's library, if there is rustc.
+    ! has_rustc || export NANORAND_SHORT=1
     NANORAND_LIBRARY=$kit over kit
+    unset NANORAND_SHORT
 elif asked_for kit; then
     skip 'the package over the library of the kit' 'there is no kit'
 fi
 asked_for cargo || finish
-if command -v rustc >/dev/null && [ -e rust/nanorand-c ]; then
+if has_rustc; then
     over cargo
+    step env PREFIX="$work/installed" c/install
+    library=$work/installed/lib/libnanorand.a
     step pip_installs python3 . "$work/env_of_cargo"
     by_two_compilers
     by_source_distribution
-    by_build
     by_editable
     first=$work/cargo
-    step env PREFIX="$work/installed" c/install
-    archive "$work/installed/lib/libnanorand.a"
+    archive "$library"
 else
     skip 'the package over the library of rustc' 'there is no rustc'
     first=$work/kit
@@ -358,6 +388,7 @@ if [ -x "$system" ] && can_build "$system"; then
     available '/usr/lib/python3/dist-packages/numpy' python3-numpy || true
     step "$system" python/build.py "$work/system/one"
     step environment "$system" "$work/system/env" "$work/system/one" --system-site-packages
+    by_build "$work/system/one"
     export NANORAND_SHORT=1
     unit_tests "python/tests by the system's Python" in_tests "$work/system/env/bin/python"
     numpys_own "$work/system/env"
