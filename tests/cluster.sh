@@ -2,7 +2,7 @@
 # Tests examples/cluster with the library that c/install builds: tests/cluster.sh. The last line is N passed, M failed.
 #
 # A plain loop, Dask, MPI with 1, 2 and 4 processes and a job array must print the committed sums. Dask with 1 and 2
-# workers, and the loop over one generator, must print the sums of the first 100 tasks; all tasks would take minutes.
+# workers, and the loop over one generator, must print the sums of the first 40 tasks; all tasks would take minutes.
 # Killing a worker must not change the sums, and a part past the end of the period must be an error. The programs of the
 # README's section "Your own simulation" run as it says.
 # shellcheck source=tests/lib.sh
@@ -145,12 +145,12 @@ by_python() {
     fi
     prints 'Dask, 4 workers' "$table" "$examples/run" dask --picture "$work/percolation.svg"
     picture
-    in_room "$work/room/job" 0 100 >"$work/first"
+    in_room "$work/room/job" 0 40 >"$work/first"
     for workers in 1 2; do
-        prints "Dask, $workers workers" "$work/first" "$examples/run" dask --workers "$workers" --tasks 100
+        prints "Dask, $workers workers" "$work/first" "$examples/run" dask --workers "$workers" --tasks 40
     done
     unit_tests 'test_percolation.py' percolation_tests
-    prints 'a loop in Python' "$work/first" "$examples/run" plain --tasks 100
+    prints 'a loop in Python' "$work/first" "$examples/run" plain --tasks 40
     available /usr/lib/python3/dist-packages/mpi4py python3-mpi4py || true
     mkdir "$work/own"
     unit_tests 'test_own.py' own_tests

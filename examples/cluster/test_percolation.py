@@ -186,7 +186,7 @@ class LocalWorkers(unittest.TestCase):
 class KilledWorker(unittest.TestCase):
     """Dask with a scheduler and two workers. One of them is killed while it has results and more tasks to run."""
 
-    TASKS = 400
+    TASKS = 200
 
     def start(self, *arguments, **options):
         process = subprocess.Popen([sys.executable, *arguments], text=True, **options)
