@@ -133,7 +133,7 @@ compiles() {
         "$(compile "$1" -fsyntax-only "${@:2}" || echo "it failed: $(head -n 5 "$work/errors")")"
 }
 
-# The table of known answers, as `tests_of` for $1 and flags: each library's program counts every row.
+# The table of known answers, as `tests_of` for $1 and flags. The program counts every row.
 answers_of() {
     tests_of "$1" c/tests/answers.c "${@:2}"
     expect "$1, every row" "$rows" "$(tail -n 1 "$work/log" | awk '{ print $1 + $3 }')"

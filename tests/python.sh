@@ -354,10 +354,12 @@ fi
 copy_of_tests
 with_its_tests python3
 if [ -n "$kit" ]; then
-    # The long tests are run over rustc's library, if there is rustc.
+    # The long tests are run over rustc's library, if there is rustc. One of them depends on the library.
     ! has_rustc || export NANORAND_SHORT=1
     NANORAND_LIBRARY=$kit over kit
     unset NANORAND_SHORT
+    unit_tests 'more than 2^32 bytes' in_tests "$work/kit/env/bin/python" \
+        test_lots.Lots.test_more_bytes_than_32_bits_count
 elif asked_for kit; then
     skip 'the package over the library of the kit' 'there is no kit'
 fi

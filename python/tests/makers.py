@@ -63,8 +63,8 @@ class Index:
 
 
 def once(test):
-    """Marks a long test of what depends neither on the library nor on Python's version. `tests/python.sh` sets
-    NANORAND_SHORT for all runs but one, over rustc's library if there is rustc, which leave the test out."""
+    """Marks a long test. `tests/python.sh` sets NANORAND_SHORT for all runs but one, over rustc's library if there is
+    rustc, which leave the test out."""
     return None if "NANORAND_SHORT" in os.environ else test
 
 
