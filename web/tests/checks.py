@@ -191,7 +191,7 @@ def no(counts: Counts, page: Page, name: str, text: str, line: int) -> None:
 def no_records(counts: Counts, page: Page, record: str) -> None:
     """Texts without a title, and with one of an unknown format."""
     for name, text in (("empty", ""), ("white", " \n\t\r\n"), ("words", "hello"), ("huge", "x" * 3_000_000),
-                       ("many lines", "x\n" * 200_000)):
+                       ("many lines", "x\n" * 50_000)):
         no(counts, page, name, text, 1)
     for title in ("nanorand public draw 3", "nanorand public draw 0", "nanorand public draw 02",
                   "nanorand public draw 1.0", "nanorand public draw 12", "<script>alert(1)</script>"):

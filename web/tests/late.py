@@ -60,7 +60,7 @@ Worker.prototype.postMessage = function (...sent) {
   if (sent[0].task === "digest") queueMicrotask(() => put(field, value));
 };
 """
-LARGE = "\n".join(str(number) for number in range(60_000)) + "\n"
+LARGE = "\n".join(str(number) for number in range(10_000)) + "\n"
 TIDIED = """
 const said = document.getElementById("tidied");
 return said.checkVisibility() ? said.textContent : "";
@@ -186,7 +186,7 @@ def lists_changed_while_tidied(counts: Counts, page: Page) -> None:
         text = page.browser.run('return document.getElementById("list-text").value;')
         counts.same(f"{name} while it is tidied", text, "later\n" if name == "typed" else "")
         counts.same(f"what is said, {name}", page.browser.run(TIDIED), "")
-    page.open_file((LARGE + LARGE).encode())
+    page.open_file(12 * LARGE.encode())
     page.facts()
     page.browser.run('document.getElementById("tidy-unique").click();')
     page.open_file(b"another\n")
