@@ -190,20 +190,21 @@ fn generators_have_texts() {
     }
 }
 
-/// Some buffered bytes, from one to a block less one, are appended to a vector that has `size`
-/// items and too little capacity for the bytes. The call is the buffer's own `read_to_end` or that
-/// of `Read`.
+/// Some buffered bytes, from one to a block less one, are appended to a vector that has these items
+/// and too little capacity for the bytes. The call is the buffer's own `read_to_end` or that of
+/// `Read`.
 fn is_appended<G: Rng<OUTPUT>, const OUTPUT: usize>(
     rng: &mut WyRand,
     buffer: &mut BufferedRng<G, OUTPUT>,
-    size: usize,
+    items: &[u8],
 ) {
+    let size = items.len();
     let taken = number(rng, OUTPUT - 2) + 1;
     buffer.fill_bytes(&mut vec![0; taken]);
     let buffered = buffer.buffered();
     let room = size + number(rng, buffered.saturating_sub(1));
     let mut out = Vec::with_capacity(room);
-    out.resize(size, 7);
+    out.extend_from_slice(items);
     let expected = [&out, buffer.rest()].concat();
     let count = if rng.generate() {
         buffer.read_to_end(&mut out).ok()
@@ -220,11 +221,12 @@ fn buffered_bytes_are_appended() {
     let mut buffer = BufferedRng::new(ChaCha20::new_key([1; 32], [2; 8]));
     let mut stream: ChaCha20Stream = chacha_stream([1; 32], [2; 8]);
     let mut wide = BufferedRng::new(Rising::<4096>::new());
+    let items = vec![7; MOST];
     for size in sizes() {
         for _ in 0..2 {
-            is_appended(&mut rng, &mut buffer, size);
-            is_appended(&mut rng, &mut stream, size);
-            is_appended(&mut rng, &mut wide, size);
+            is_appended(&mut rng, &mut buffer, &items[..size]);
+            is_appended(&mut rng, &mut stream, &items[..size]);
+            is_appended(&mut rng, &mut wide, &items[..size]);
         }
     }
 }
