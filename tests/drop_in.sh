@@ -141,7 +141,9 @@ for feature in std alloc tls wyrand pcg64 chacha getrandom zeroize rdseed; do
     step cargo check "${debian[@]}" --no-default-features --features "$feature"
 done
 step without_std
-if is_version 1.63 /usr/bin/rustc; then
+if is_version 1.63 rustc; then
+    : # The tests above were with that version.
+elif is_version 1.63 /usr/bin/rustc; then
     cargo_tests env PATH="/usr/bin:$PATH" CARGO_TARGET_DIR="$here/target/oldest" cargo test "${debian[@]}" --all-features
 else
     skip 'the drop-in with rustc 1.63, the oldest that Cargo.toml names' '/usr/bin/rustc is none'

@@ -359,10 +359,11 @@ def quick(counts, room):
         counts.same(f"./test quick {arguments}, after a change of {change}", (made, done.returncode), (wanted, 0))
 
 
-# The stand-in for cargo and rustc. The call with the number BAD fails, or prints nothing if KIND is `nothing`. The
-# stand-in has all subcommands, but no LLVM tools.
+# The stand-in for cargo and rustc: the oldest in the folder `oldest`, else a newer one. The call with the number BAD
+# fails, or prints nothing if KIND is `nothing`. The stand-in has all subcommands, but no LLVM tools.
 STAND_IN = """#!/bin/sh
-case "$*" in *--version | *--verbose | --print*) printf 'rustc 1.63.0\nhost: none\nLLVM version: 0\n'; exit 0 ;; esac
+case "$0" in */oldest/*) minor=63 ;; *) minor=77 ;; esac
+case "$*" in *--version | *--verbose | --print*) printf "rustc 1.$minor.0\nhost: none\nLLVM version: 0\n"; exit 0 ;; esac
 echo "${0##*/} $*" >>"$CALLS"
 if [ "$(wc -l <"$CALLS")" -eq "$BAD" ]; then
     [ "$KIND" = "nothing" ] && exit 0
@@ -380,7 +381,7 @@ def crate_tested(room, bad, kind):
     calls = room / "calls"
     calls.write_text("")
     done = ran(["tests/workspace.sh"], room, PATH=f"{room / 'bin'}:{os.environ['PATH']}", CALLS=str(calls), BAD=str(bad),
-               KIND=kind, NANORAND_OLDEST=str(room))
+               KIND=kind, NANORAND_OLDEST=str(room / "oldest"))
     return calls.read_text().splitlines(), done.stdout.splitlines()[-1], done.returncode
 
 
@@ -390,11 +391,12 @@ def crate(counts, room):
     copy_of_repository(room, "rust", "Cargo.toml", "tests", "tools")
     for example in sorted((room / "rust/nanorand-proved/examples").iterdir())[1:]:
         example.unlink()
-    for name in ["cargo", "rustc"]:
-        (room / "bin").mkdir(exist_ok=True)
-        (room / "bin" / name).write_text(STAND_IN)
-        (room / "bin" / name).chmod(0o755)
-    std = room / "lib/rustlib/x86_64-unknown-linux-gnu/lib/libstd-1.rlib"
+    for folder in [room / "bin", room / "oldest/bin"]:
+        folder.mkdir(parents=True)
+        for name in ["cargo", "rustc"]:
+            (folder / name).write_text(STAND_IN)
+            (folder / name).chmod(0o755)
+    std = room / "oldest/lib/rustlib/x86_64-unknown-linux-gnu/lib/libstd-1.rlib"
     std.parent.mkdir(parents=True)
     std.touch()
     (room / "target").mkdir()  # which cargo makes

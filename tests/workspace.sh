@@ -6,7 +6,7 @@ source "$(dirname "${BASH_SOURCE[0]}")/lib.sh"
 library=rust/nanorand-proved
 programs=(-p nanorand-program -p lots -p draw)
 # With several units, rustc compiles inline functions in each of them, which takes a third more time.
-export CARGO_PROFILE_RELEASE_CODEGEN_UNITS=1
+export CARGO_PROFILE_RELEASE_CODEGEN_UNITS=1 CARGO_PROFILE_RELEASE_STRIP=debuginfo
 oldest=$(sed -n 's/^rust-version = "\(.*\)"$/\1/p' Cargo.toml)
 
 # The library's version, oldest compiler and license are those in its documents, and it has no dependency.
@@ -182,11 +182,12 @@ all_covered() {
     fi
 }
 
-# Compares the table of answers with the oldest compiler, and compiles the programs for each target whose std is there.
-# tests/packed.sh runs the tests of the packages with this compiler.
+# Compares the table of answers with the oldest compiler, unless that is the compiler of the other tests, and compiles
+# the programs for each target whose std is there. tests/packed.sh runs the tests of the packages with this compiler.
 by_the_oldest() {
     local words=(env "RUSTC=$oldest_bin/rustc" "RUSTDOC=$oldest_bin/rustdoc" "$oldest_bin/cargo") std target
-    cargo_tests "${words[@]}" test --offline -p nanorand-answers --target-dir target/oldest
+    is_version "$oldest" rustc ||
+        cargo_tests "${words[@]}" test --offline -p nanorand-answers --target-dir target/oldest
     for std in "${oldest_bin%/bin}"/lib/rustlib/*/lib/libstd-*.rlib; do
         target=${std#*/lib/rustlib/}
         step "${words[@]}" check --offline "${programs[@]}" --target-dir target/oldest --target "${target%%/*}"
@@ -204,9 +205,7 @@ done
 step has_a_page lots
 step has_a_page draw
 clippy_and_format --workspace --all-targets
-export RUSTDOCFLAGS='-D warnings'
-step documented
-unset RUSTDOCFLAGS
+RUSTDOCFLAGS='-D warnings' step documented
 coverage=$PWD/target/coverage
 # What counts the code that tests run, and whether it is there.
 if counter=$(tools/uncovered.py --tools); then can_count=yes; else can_count=; fi
@@ -229,8 +228,10 @@ else
 fi
 all_covered "$coverage" "${sources[@]}"
 cargo_tests cargo test --offline --workspace --doc
-# A million states for each vector body that this machine has.
-cargo_tests env NANORAND_STATES=1000000 cargo test --offline --release -p nanorand-proved -p nanorand-answers
+# Optimized: all tests but `behaviour` and `calls`, which take minutes to compile, and doctests, which no profile
+# optimizes. The table of answers has all calls. There are a million states for each vector body that this machine has.
+cargo_tests env NANORAND_STATES=1000000 cargo test --offline --release -p nanorand-proved -p nanorand-answers --lib \
+    --test answers --test chacha_lanes --test getrandom --test no_file --test refused --test streams
 cargo_tests cargo test --offline --no-default-features --doc -p nanorand-proved
 step cargo check --offline --no-default-features --all-targets -p nanorand-proved
 cargo_tests cargo test --offline --no-default-features -p lots
