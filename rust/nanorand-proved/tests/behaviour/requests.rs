@@ -173,13 +173,13 @@ where
 
 fn check_arrays<G: Rng<OUTPUT> + Clone + PartialEq + Debug, const OUTPUT: usize>(fresh: &G) {
     macro_rules! check {
-        ($($size:literal)+) => { $(
-            check_array::<G, OUTPUT, $size>(fresh);
-            check_items::<G, OUTPUT, $size>(fresh);
-        )+ };
+        ($($size:literal)+) => { $(check_array::<G, OUTPUT, $size>(fresh);)+ };
     }
-    check!(1 2 64 255 256 257 512 513 1000 4096);
-    check_array::<G, OUTPUT, 65_537>(fresh);
+    check!(1 2 64 255 256 257 512 513 1000 4096 65_537);
+    // Items are drawn one by one, whatever their number.
+    check_items::<G, OUTPUT, 1>(fresh);
+    check_items::<G, OUTPUT, 257>(fresh);
+    check_items::<G, OUTPUT, 4096>(fresh);
 }
 
 /// Runs checks with a large stack, because each call moves some arrays and blocks by value.
