@@ -363,7 +363,7 @@ def quick(counts, room):
 # fails, or prints nothing if KIND is `nothing`. The stand-in has all subcommands, but no LLVM tools.
 STAND_IN = """#!/bin/sh
 case "$0" in */oldest/*) minor=63 ;; *) minor=77 ;; esac
-case "$*" in *--version | *--verbose | --print*) printf "rustc 1.$minor.0\nhost: none\nLLVM version: 0\n"; exit 0 ;; esac
+case "$*" in *--version | *--verbose | --print*) printf "rustc 1.$minor.0\nhost: no\nLLVM version: 0\n"; exit 0 ;; esac
 echo "${0##*/} $*" >>"$CALLS"
 if [ "$(wc -l <"$CALLS")" -eq "$BAD" ]; then
     [ "$KIND" = "nothing" ] && exit 0
