@@ -66,11 +66,11 @@ mkdir "$shelf"
 step grep -qx 'publish = false' rust/nanorand-c/Cargo.toml
 step packs --offline --workspace --exclude nanorand-answers
 step put_into_the_registry
-# Skipped, because they are slow without optimization: the sweeps, and the lists of all sizes of the programs.
+# Skipped, because they are slow without full optimization: the sweeps, and the lists of all sizes of the programs.
 tests_alone nanorand-proved -- --skip sweeps::
 tests_alone nanorand-proved --no-default-features --lib --tests -- --skip sweeps::
 for name in nanorand-program lots draw; do
-    tests_alone "$name" -- --skip all_
+    CARGO_PROFILE_DEV_OPT_LEVEL=1 tests_alone "$name" -- --skip all_
 done
 if crates_of_others getrandom-0.2. zeroize-1.; then
     # The name of the drop-in's package is that of the crate which it replaces.

@@ -210,7 +210,10 @@ coverage=$PWD/target/coverage
 # What counts the code that tests run, and whether it is there.
 if counter=$(tools/uncovered.py --tools); then can_count=yes; else can_count=; fi
 rm -rf "$coverage/profiles"
-covered "$coverage" --workspace --lib --bins --tests
+covered "$coverage" -p nanorand-proved -p nanorand-answers --lib --tests
+# With some optimization, which keeps the checks of a debug build, three tests of `lots` take 4 instead of 94 seconds.
+# Those of the library would take longer, as most of their time is that of the compiler.
+CARGO_PROFILE_DEV_OPT_LEVEL=1 covered "$coverage" "${programs[@]}" --lib --bins --tests
 covered "$coverage" --release -p nanorand-proved --no-default-features --lib --test chacha_lanes
 sources=(rust/{nanorand-program,lots,draw}/src)
 # Without std, the file with vectors asks the processor itself. Its tests compare the answer with that of std, on
