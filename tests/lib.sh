@@ -11,8 +11,8 @@ work=$(mktemp -d)
 trap 'rm -rf "$work"' EXIT
 passed=0
 failed=0
-# No test reads debug information, and producing it takes a fifth of rustc's time. Most folders of cargo are new, so
-# that what it prepares for later builds, and its many units of a crate, only add to the time.
+# No test reads debug information, and producing it takes a fifth of rustc's time. Most target folders are new, so
+# incremental compilation and many units for each crate would only take time.
 export CARGO_PROFILE_DEV_DEBUG=0 CARGO_PROFILE_TEST_DEBUG=0 CARGO_PROFILE_DEV_STRIP=debuginfo
 export CARGO_INCREMENTAL=0 CARGO_PROFILE_DEV_CODEGEN_UNITS=1
 # The programs of doctests are linked without the debug information of std.
