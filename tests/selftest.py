@@ -708,7 +708,8 @@ def mutants(counts, room):
     """tools/mutants.py plants both mutants at once, counts each refusal separately, and fails a mutant that passes. A
     mutant that was refused is tried again only if a file that its check reads has changed."""
     copy_of_repository(room, "tools")
-    texts = {"crates.txt": "low:\n", "crates/low/src/lib.rt": LOW, "bin/rt": RT, "bin/rattle": CHECK, "KIT-ID": "kit\n"}
+    texts = {"crates.txt": "low:\n", "crates/low/src/lib.rt": LOW, "bin/rt": RT, "bin/rattle": CHECK,
+             "KIT-ID": "kit logic 1"}
     for name, text in texts.items():
         (room / name).parent.mkdir(parents=True, exist_ok=True)
         (room / name).write_text(text, encoding="utf-8")
@@ -744,16 +745,18 @@ def kept_mutants(counts, room, tried, texts):
     (room / "crates.txt").write_text("under:\nlow: under\n", encoding="utf-8")
     edits.write_text("\n".join(texts).replace("at \n", "at value\n"), encoding="utf-8")
     for name in ("", "crates/low/src/lib.rt", "crates/low/specs/Sums.antt", "crates/low/proofs/lemmas/Sums.antt",
-                 "crates/under/src/lib.rt", "crates/under/specs/Sums.antt", "crates.txt", "KIT-ID", "bin/rattle",
-                 "tools/edits.py", "tools/kept.py"):
+                 "crates/under/src/lib.rt", "crates/under/specs/Sums.antt", "crates.txt", "KIT-ID", "tools/edits.py",
+                 "tools/kept.py"):
         if name:
             (room / name).parent.mkdir(parents=True, exist_ok=True)
             with open(room / name, "a", encoding="utf-8") as file:
-                file.write("low: under under\n" if name == "crates.txt" else "\n")
+                file.write({"crates.txt": "low: under under\n", "KIT-ID": "2"}.get(name, "\n"))
         found = [tried(**kept), tried(**kept)]
         counts.same(f"mutants tried twice, after a change of {name or 'nothing'}", found, [both, none])
         found = [tried(KEPT=""), tried("--record", KEPT=""), tried(KEPT="")]
         counts.same(f"mutants recorded, after a change of {name or 'nothing'}", found, [both, both, none])
+    (room / "KIT-ID").write_text("kit2 logic 12", encoding="utf-8")
+    counts.same("mutants with a record, and another kit of the same logic", tried(KEPT=""), none)
     counts.same("mutants with a record, and all", tried("--all", **kept), both)
     for name in ("low/one", "low/two"):
         counts.same(f"{name} by its name, with a record", tried(name, **kept), (2, "1 passed, 0 failed", 0))

@@ -58,6 +58,11 @@ def kit():
     return Path(page.strip()).parent
 
 
+def logic():
+    """The checksum of the logic with which the kit checks proofs. Kits with other names may have the same logic."""
+    return (kit() / "KIT-ID").read_text(encoding="utf-8").split()[-1]
+
+
 def words(name, all_crates, checkout):
     """The kit compiler's arguments for the dependencies of a crate: the libraries that `rt ci` left in a checkout, and
     the kit's."""

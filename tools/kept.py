@@ -29,9 +29,9 @@ def folder():
 
 class Kept:
     """The mutants of a crate that passed. Each has an entry, which is named by the checksum of what its check depends
-    on: the kit (by its name and the size of its compiler), these scripts, the sources of the crate and, in the checkout
-    that proved them, of the libraries below it, whether stored answers are left out, and the mutant itself. If one of
-    these changes, the entry is not found. The record has the checksum of the entries of all mutants of the crate."""
+    on: the kit's logic, these scripts, the sources of the crate and, in the checkout that proved them, of the libraries
+    below it, whether stored answers are left out, and the mutant itself. If one of these changes, the entry is not
+    found. The record has the checksum of the entries of all mutants of the crate."""
 
     def __init__(self, crate, proved, anew):
         self.crate, self.proved, self.anew, self.folder = crate, proved, anew, folder()
@@ -39,10 +39,8 @@ class Kept:
 
     def current_sum(self):
         """The checksum of what the checks of all mutants of the crate read."""
-        everything, kit = crates.crates(), crates.kit()
-        compiler = (kit / "bin/rattle").stat()
-        digest = hashlib.sha256(repr((self.anew, compiler.st_size)).encode())
-        digest.update((kit / "KIT-ID").read_bytes())
+        everything = crates.crates()
+        digest = hashlib.sha256(repr((self.anew, crates.logic())).encode())
         for name in TOOLS:
             digest.update(Path(__file__).with_name(name).read_bytes())
         for name in (self.crate.name, *crates.below(self.crate.name, everything)):
