@@ -3,8 +3,9 @@
 #
 # For each target whose std the oldest supported compiler has, it compiles the library with and without its feature std,
 # and runs the library's tests/targets/program.rs if there are a linker and a command that runs it. Under qemu it also
-# runs the unit tests of the two files with unsafe code, which compare NEON with scalar code. NANORAND_OLDEST names the
-# folder that has bin/rustc (/usr by default), and NANORAND_STD a folder with the std of further targets.
+# runs the unit tests of the two files with unsafe code, which compare NEON with scalar code. The numbers of the system
+# call for each processor are compared with those of the crate libc. NANORAND_OLDEST names the folder that has bin/rustc
+# (/usr by default), and NANORAND_STD a folder with the std of further targets.
 # shellcheck source=tests/lib.sh
 source "$(dirname "${BASH_SOURCE[0]}")/lib.sh"
 oldest=${NANORAND_OLDEST:-/usr}
@@ -81,6 +82,30 @@ run_unit_tests() {
         --skip more_than_4_gibibytes
 }
 
+# Compares the numbers of the system call getrandom in system.rs with those in Debian's crate libc.
+system_calls() {
+    local word number processor processors=() compared=0 libc
+    if ! packages libc-0.2.; then
+        skip 'the numbers of system calls' "Debian's crate libc is not there"
+        return
+    fi
+    libc=$(echo "$registry"/libc-0.2.*/src/unix/linux_like/linux/gnu)
+    while IFS='()"' read -r word number _; do
+        case $word in
+        Some)
+            for processor in "${processors[@]}"; do
+                expect "getrandom on $processor" "$(sed -nE 's/^pub const SYS_getrandom: .* = ([0-9]+);/\1/p' \
+                    "$libc"/b??/"$processor"{.rs,/mod.rs,/not_x32.rs} 2>/dev/null)" "$number"
+                compared=$((compared + 1))
+            done
+            processors=()
+            ;;
+        *) processors+=("$number") ;;
+        esac
+    done < <(sed -n '/const NUMBER:/,/};/p' src/system.rs | grep -oE 'target_arch = "\w+"|Some\([0-9]+\)')
+    expect 'processors with a number for getrandom' 8 "$compared"
+}
+
 while read -r target linker runner; do
     [ -n "$target" ] || continue
     if ! std_of "$target" >/dev/null; then
@@ -96,4 +121,5 @@ while read -r target linker runner; do
         skip "a program on $target" "there is no $linker or no ${words[0]}"
     fi
 done <<<"$targets"
+system_calls
 finish

@@ -28,6 +28,7 @@
 #![forbid(unsafe_code)]
 #![deny(missing_docs)]
 
+use core::fmt;
 use nanorand_proved::{ChaCha, ChaChaStream, Pcg64, Rng, WyRand};
 use rand_core::{Error, RngCore, SeedableRng};
 
@@ -108,6 +109,13 @@ pub struct ChaChaSeed(pub [u8; 40]);
 impl Default for ChaChaSeed {
     fn default() -> Self {
         ChaChaSeed([0; 40])
+    }
+}
+
+/// Writes `ChaChaSeed(..)`, since the bytes hold the key.
+impl fmt::Debug for ChaChaSeed {
+    fn fmt(&self, f: &mut fmt::Formatter<'_>) -> fmt::Result {
+        f.write_str("ChaChaSeed(..)")
     }
 }
 

@@ -24,7 +24,7 @@ macro_rules! lacks {
     })+ };
 }
 
-/// No generator is a `CryptoRng`. A `ChaChaSeed` has no text, because that would show its key.
+/// No generator is a `CryptoRng`. A `ChaChaSeed` has no text that would show its key.
 #[test]
 fn what_is_not_implemented() {
     lacks!(Core<WyRand, 8>: CryptoRng);
@@ -34,7 +34,10 @@ fn what_is_not_implemented() {
     lacks!(Core<ChaCha20, 64>: CryptoRng);
     lacks!(Core<BufferedRng<ChaCha20, 64>, 64>: CryptoRng);
     lacks!(Core<ChaCha20Stream, 512>: CryptoRng);
-    lacks!(ChaChaSeed: Debug, Display, LowerHex, UpperHex);
+    lacks!(ChaChaSeed: Display, LowerHex, UpperHex);
+    for seed in [ChaChaSeed::default(), ChaChaSeed([0x5a; 40])] {
+        assert_eq!(format!("{seed:?} {seed:#?}"), "ChaChaSeed(..) ChaChaSeed(..)");
+    }
 }
 
 /// The four functions of `RngCore` return what the functions of `Rng` return, and leave the same
