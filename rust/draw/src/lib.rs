@@ -1,5 +1,6 @@
 //! The implementation of the program `draw`: it parses the command-line arguments, draws, and
-//! writes the resulting text. The program only calls [`run::run`] and [`run::report`].
+//! writes the resulting text. The program only calls [`run::run`] and [`run::report`], which are
+//! public for its tests, and may change in any release.
 //!
 //! The functions have the bodies of the crate `draw_core` in Rattle, whose contracts are proved.
 //! `hex` and `growing` are hand-written.

@@ -17,6 +17,7 @@
 //! The functions have the bodies of the crates `lots_core` and `lots_record` in Rattle, whose
 //! contracts are proved. `sha256`, `hex`, `reading` and `growing` are hand-written. The program
 //! `lots` reads its arguments and files, and calls the functions of `command`, `run` and `program`.
+//! These three modules are public for the tests of the program, and may change in any release.
 //!
 //! The feature `std`, on by default, adds the lists of entrants, the records and the program.
 //! Without it the crate is `no_std`, and allocates nothing.
