@@ -18,11 +18,11 @@ The last line is N passed, M failed. If PROVED names a checkout in which rt ci h
 otherwise each unchanged crate is proved first. LANES is the number of crates that are tried side by side. LOGS names a
 folder for the output of the checks.
 
-What passed is not tried again while everything that its check reads stays the same: the kit, these scripts, the crate,
-and the libraries below it. Mutants that are named are tried nevertheless, and --all tries all. --record writes, for
-each crate whose mutants all passed, the record mutants/passed.txt, which is committed, so that other machines do not
-try them again either. Single mutants are kept on this machine: KEPT names the folder, by default nanorand/mutants in
-the user's cache; if it is empty, none is kept.
+What passed is not tried again while everything that its check reads stays the same: the kit's logic, these scripts, the
+crate, and the libraries below it. Mutants that are named are tried nevertheless, and --all tries all. --record writes,
+for each crate whose mutants all passed, the record mutants/passed.txt, which is committed, so that other machines do
+not try them again either. Single mutants are kept on this machine: KEPT names the folder, by default nanorand/mutants
+in the user's cache; if it is empty, none is kept.
 """
 
 import os
