@@ -8,6 +8,8 @@ source "$(dirname "${BASH_SOURCE[0]}")/lib.sh"
 cd tests/clients || exit
 here=$PWD
 export CARGO_TARGET_DIR=$here/target
+# The random cases of each property of im-rc, instead of 256: they test its data structures, and not the generator.
+export PROPTEST_CASES=32
 
 # Whether cargo takes the crate $1 from this folder for a client, by these options. Else it would only warn.
 takes_ours() {

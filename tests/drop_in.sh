@@ -1,9 +1,9 @@
 #!/usr/bin/env bash
 # Tests the drop-in replacement for nanorand 0.7.0, rust/nanorand-drop-in, with cargo: tests/drop_in.sh.
 #
-# Its own tests come first. Then come clients of nanorand 0.7.0, built with Debian's packages: a program that names all
-# public items, ten million calls compared with 0.7.0, and the unedited tests of 0.7.0 and of flume. The last line is N
-# passed, M failed.
+# Its own tests come first; tests/packed.sh runs them with the oldest compiler. Then come clients of nanorand 0.7.0, built
+# with Debian's packages: a program that names all public items, ten million calls compared with 0.7.0, and the unedited
+# tests of 0.7.0 and of flume. The last line is N passed, M failed.
 # shellcheck source=tests/lib.sh
 source "$(dirname "${BASH_SOURCE[0]}")/lib.sh"
 cd rust/nanorand-drop-in || exit
@@ -141,13 +141,6 @@ for feature in std alloc tls wyrand pcg64 chacha getrandom zeroize rdseed; do
     step cargo check "${debian[@]}" --no-default-features --features "$feature"
 done
 step without_std
-if is_version 1.63 rustc; then
-    : # The tests above were with that version.
-elif is_version 1.63 /usr/bin/rustc; then
-    cargo_tests env PATH="/usr/bin:$PATH" CARGO_TARGET_DIR="$here/target/oldest" cargo test "${debian[@]}" --all-features
-else
-    skip 'the drop-in with rustc 1.63, the oldest that Cargo.toml names' '/usr/bin/rustc is none'
-fi
 if [ -d /usr/lib/rustlib/x86_64-pc-windows-gnu ]; then
     step env PATH="/usr/bin:$PATH" RUSTFLAGS='-D warnings' CARGO_TARGET_DIR="$here/target/oldest" \
         cargo check "${debian[@]}" --target x86_64-pc-windows-gnu

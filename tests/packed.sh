@@ -40,10 +40,11 @@ tests_alone() {
     rm -rf "$work/alone"
 }
 
-# Packs and tests the package in rust/$1, whose name is $2. It needs others of the registry.
+# Packs and tests the package in rust/$1, whose name is $2, with further arguments of cargo. It needs others of the
+# registry.
 outside_the_workspace() {
     step packs "${from_registry[@]}" --manifest-path "rust/$1/Cargo.toml" && step put_into_the_registry &&
-        tests_alone "$2"
+        tests_alone "${@:2}"
 }
 
 # Puts Debian's crates into the registry, if those with the names that begin like this are installed.
@@ -74,7 +75,7 @@ for name in nanorand-program lots draw; do
 done
 if crates_of_others getrandom-0.2. zeroize-1.; then
     # The name of the drop-in's package is that of the crate which it replaces.
-    outside_the_workspace nanorand-drop-in nanorand
+    outside_the_workspace nanorand-drop-in nanorand --all-features
 else
     skip 'the packed drop-in' 'the crates getrandom and zeroize are not there'
 fi

@@ -53,7 +53,8 @@ std_of_other_architectures() {
     done
 }
 
-# Tests the adapter with Debian's rand_core, its lints, and the crate itself without what its tests need.
+# Tests the adapter with Debian's rand_core, its lints, and the crate itself without what its tests need. tests/packed.sh
+# tests it with the oldest compiler.
 adapter() {
     local manifest=$work/copy/rust/nanorand-rand-core/Cargo.toml
     local words=("${debian[@]}" --manifest-path "$manifest")
@@ -61,14 +62,6 @@ adapter() {
     step cargo check "${words[@]}"
     step cargo run --quiet "${words[@]}" --example seeded
     step env RUSTDOCFLAGS='-D warnings' cargo doc "${words[@]}" --no-deps
-    if is_version 1.63 rustc; then
-        : # The tests above were with that version.
-    elif is_version 1.63 "$oldest_bin/rustc"; then
-        cargo_tests env "RUSTC=$oldest_bin/rustc" "RUSTDOC=$oldest_bin/rustdoc" "$oldest_bin/cargo" test "${words[@]}" \
-            --target-dir "$work/oldest"
-    else
-        skip 'the adapter with rustc 1.63, the oldest that Cargo.toml names' "$oldest_bin has none"
-    fi
     if cargo clippy --version >/dev/null 2>&1; then
         step cargo clippy "${words[@]}" --all-targets -- -D warnings -W clippy::pedantic
     else
