@@ -2,8 +2,8 @@
 # Tests the drop-in replacement for nanorand 0.7.0, rust/nanorand-drop-in, with cargo: tests/drop_in.sh.
 #
 # Its own tests come first; tests/packed.sh runs them with the oldest compiler. Then come clients of nanorand 0.7.0, built
-# with Debian's packages: a program that names all public items, ten million calls compared with 0.7.0, and the unedited
-# tests of 0.7.0 and of flume. The last line is N passed, M failed.
+# with Debian's packages: a program that names all public items, three million calls compared with 0.7.0, and the
+# unedited tests of 0.7.0 and of flume. The last line is N passed, M failed.
 # shellcheck source=tests/lib.sh
 source "$(dirname "${BASH_SOURCE[0]}")/lib.sh"
 cd rust/nanorand-drop-in || exit

@@ -337,7 +337,7 @@ def check_fields(counts: Counts, page: Page, program: str, module: bytes) -> Non
 def many(counts: Counts, page: Page, program: str, module: bytes) -> None:
     """More winners and reserves than a record names."""
     data = b"".join(b"%d\n" % number for number in range(1500))
-    for winners, reserves in ((1, 0), (999, 3), (1000, 1), (1001, 2), (1500, 0), (1, 1499)):
+    for winners, reserves in page.share(((1, 0), (999, 3), (1000, 1), (1001, 2), (1500, 0), (1, 1499))):
         announced = EXAMPLE._replace(digest=sha256(data), entrants=1500, winners=winners, reserves=reserves)
         page.load()
         page.open_file(data)

@@ -130,8 +130,8 @@ def fields(counts: Counts, page: Page) -> None:
             again = " again: it has half of a character, as a broken copy leaves it" if value.strip() else ""
             found = [*seen(page, "announce-error", "announcement-text"), focused(page)]
             counts.same(f"{name} is {value!r}", found, [f"Type {called}{again}.", "", name])
-        for value in ('"', ' "x" ', "a\\b", "\u200b\u202eabc", "\U0001f469\u200d\U0001f4bb", "x" * 10000, "a\u00a0b",
-                      "\u5f20"):
+        for value in page.share(('"', ' "x" ', "a\\b", "\u200b\u202eabc", "\U0001f469\u200d\U0001f4bb", "x" * 10000,
+                                 "a\u00a0b", "\u5f20")):
             page.put(**{name: value})
             wanted = EXAMPLE._replace(**{name: quoted(value.encode())}).text()
             counts.same(f"{name} is {value[:20]!r}", saved(page), wanted.encode())

@@ -134,7 +134,7 @@ def asked(counts: Counts, page: Page, name: str, data: bytes, wanted: List[Any])
 
 def headings(counts: Counts, page: Page) -> None:
     page.load()
-    for heading in HEADINGS:
+    for heading in page.share(HEADINGS):
         text = f"{heading}\n{SMALL}"
         line = heading.replace("\ufeff", "U+FEFF byte order mark").replace("\t", "U+0009 tab")
         line = re.sub("^  ", "U+0020 space ", line)
@@ -208,8 +208,8 @@ def encodings(counts: Counts, page: Page) -> None:
     for start in (b"%PDF-1.7\n", b"{\\rtf1 ", b"<!doctype html>", b"<?xml ?>", b"BEGIN:VCARD\n"):
         asked(counts, page, f"a document {start!r}", start + b"Ada\n", [[no_text, [], choices[1:]]])
     asked(counts, page, "UTF-8 with a byte 0", b"a\0b\nc\nd", [[no_text, [], choices[1:]]])
-    for text in ("Иван", "Иван\n", "Иван\nОлег Попов\n", "عمر\nزينب\n", "राम\n", "山田\n花子 太郎\n", "Āda\nĒva\n",
-                 "A\u3000B\n"):
+    for text in page.share(("Иван", "Иван\n", "Иван\nОлег Попов\n", "عمر\nزينب\n", "राम\n", "山田\n花子 太郎\n",
+                            "Āda\nĒva\n", "A\u3000B\n")):
         for name in ("utf-16-le", "utf-16-be"):
             page.open_file(text.encode(name))
             page.browser.wait("return !document.getElementById('tidy').hidden;")

@@ -88,7 +88,7 @@ def draws_again(counts: Counts, page: Page, name: str) -> None:
 
 
 def draws(counts: Counts, page: Page) -> None:
-    for reason, (values, field, words) in REFUSALS.items():
+    for reason, (values, field, words) in page.share(REFUSALS.items()):
         page.load()
         page.browser.run(REFUSED)
         filled(page)
@@ -104,7 +104,7 @@ def draws(counts: Counts, page: Page) -> None:
 
 
 def checks(counts: Counts, page: Page) -> None:
-    for reason, (values, field, words) in REFUSALS.items():
+    for reason, (values, field, words) in page.share(REFUSALS.items()):
         page.load()
         page.browser.run(REFUSED)
         filled(page)

@@ -133,7 +133,7 @@ def two_of_a_kind(counts: Counts, page: Page, texts: Dict[str, bytes]) -> None:
 
 def together_for_a_draw(counts: Counts, page: Page, texts: Dict[str, bytes]) -> None:
     """Under Hold a draw, a list and its announcement are opened together, and a record is not."""
-    for kinds in (*permutations(KINDS, 2), *permutations(KINDS, 3)):
+    for kinds in page.share((*permutations(KINDS, 2), *permutations(KINDS, 3))):
         begin(page, "draw")
         drop_all(page, "draw-step", [(f"{kind}.txt", texts[kind]) for kind in kinds])
         page.browser.wait("return arguments[0] ? document.getElementById('announced').checkVisibility() : true;",
@@ -161,26 +161,26 @@ def opened(counts: Counts, page: Page, texts: Dict[str, bytes]) -> None:
             counts.same(f"a {kind} opened, {name}: told", page.browser.run("return window.told;"),
                         f"Opened as the {kind}")
             page.put(**{"check_text" if kind == "record" else "check_announcement": f"the {kind} before"})
-    for data in (texts["record"], old_record(texts["record"].decode()).encode(), b"\xef\xbb\xbf" + texts["record"],
-                 re.sub(rb"(?m)^", b"> ", texts["record"]), b"nanorand public draw"):
-        for before in (OTHER_LIST, b"", b"Ada\n\nBob\n"):
-            page.load()
-            if before:
-                page.open_file(before)
-                page.browser.wait("return document.getElementById('tidy').checkVisibility();")
-                if b"\n\n" not in before:
-                    page.facts()
-            was = [page.shown()["digest"], page.shown()["list"]]
-            page.open_file(data)
-            page.browser.wait("return document.getElementById('file-error').checkVisibility();")
-            if b"\n\n" in before:
-                page.browser.wait("return document.getElementById('list-error').checkVisibility();")
-            elif before:
+    records = (texts["record"], old_record(texts["record"].decode()).encode(), b"\xef\xbb\xbf" + texts["record"],
+               re.sub(rb"(?m)^", b"> ", texts["record"]), b"nanorand public draw")
+    for data, before in page.share(product(records, (OTHER_LIST, b"", b"Ada\n\nBob\n"))):
+        page.load()
+        if before:
+            page.open_file(before)
+            page.browser.wait("return document.getElementById('tidy').checkVisibility();")
+            if b"\n\n" not in before:
                 page.facts()
-            found = [*seen(page, "file-error"), page.shown()["digest"], page.shown()["list"]]
-            counts.same(f"a record for a draw, {data[:24]!r}, {before!r}", found, [A_RECORD, *was])
-            page.tab("check")
-            counts.same("it is not said in a check", seen(page, "file-error"), [""])
+        was = [page.shown()["digest"], page.shown()["list"]]
+        page.open_file(data)
+        page.browser.wait("return document.getElementById('file-error').checkVisibility();")
+        if b"\n\n" in before:
+            page.browser.wait("return document.getElementById('list-error').checkVisibility();")
+        elif before:
+            page.facts()
+        found = [*seen(page, "file-error"), page.shown()["digest"], page.shown()["list"]]
+        counts.same(f"a record for a draw, {data[:24]!r}, {before!r}", found, [A_RECORD, *was])
+        page.tab("check")
+        counts.same("it is not said in a check", seen(page, "file-error"), [""])
     page.load()
     page.paste(texts["record"].decode())
     page.facts(keep=False)
@@ -331,13 +331,13 @@ def mails(counts: Counts, page: Page, texts: Dict[str, bytes]) -> None:
     page.facts()
     record, announcement = texts["record"].decode(), texts["announcement"].decode()
     lines = record.count("\n")
-    for name, text, line in (
+    for name, text, line in page.share((
             ("above", announcement + record, 1), ("below", record + announcement, lines + 1),
             ("a line between", f"{announcement}\n{record}", 1), ("alone", announcement, 1),
             ("a text above", f"Dear all,\n\n{announcement}\n{record}\nYours", 3), ("cut", announcement[:200], 1),
             ("a text above it alone", f"Dear all,\n{announcement}", 2), ("spaces", f" {announcement}{record}", 1),
             ("a mark", f"\ufeff{announcement}{record}", 1), ("capitals", announcement.upper() + record, 1),
-            ("of an old record", announcement + old_record(record), 1)):
+            ("of an old record", announcement + old_record(record), 1))):
         for way, given in (("as it is", text), ("quoted", re.sub("(?m)^", "> ", text)),
                            ("Windows", text.replace("\n", "\r\n"))):
             shown = page.check(given)

@@ -1,4 +1,4 @@
-//! Compares this crate with nanorand 0.7.0, by ten million random calls of the same generators in
+//! Compares this crate with nanorand 0.7.0, by three million random calls of the same generators in
 //! the same states.
 //!
 //! Results and states are the same, except for calls that have a listed fault of 0.7.0. Whether a
@@ -16,7 +16,7 @@ use own::{Own, State};
 use pair::Pair;
 
 const SEEDS: u64 = 36;
-const CALLS: usize = 20_000;
+const CALLS: usize = 6_000;
 
 /// Compares a generator, alone and in a buffer.
 fn check<New, Old, const SEED: usize, const OUTPUT: usize>(
