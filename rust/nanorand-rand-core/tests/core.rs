@@ -36,7 +36,10 @@ fn what_is_not_implemented() {
     lacks!(Core<ChaCha20Stream, 512>: CryptoRng);
     lacks!(ChaChaSeed: Display, LowerHex, UpperHex);
     for seed in [ChaChaSeed::default(), ChaChaSeed([0x5a; 40])] {
-        assert_eq!(format!("{seed:?} {seed:#?}"), "ChaChaSeed(..) ChaChaSeed(..)");
+        assert_eq!(
+            format!("{seed:?} {seed:#?}"),
+            "ChaChaSeed(..) ChaChaSeed(..)"
+        );
     }
 }
 
