@@ -268,6 +268,23 @@ def below_a_mail(counts: Counts, page: Page, texts: Dict[str, bytes]) -> None:
         counts.same(f"{name}, for a draw", found != sha256(OTHER_LIST), True)
 
 
+def words_of_titles(counts: Counts, page: Page, texts: Dict[str, bytes]) -> None:
+    """Lines that only contain the words of a title are entrants. A title below many of them is found."""
+    words = b"x nanorand public draw 2\nnanorand public draw 2x\nnanorand announcement 1x\n" * 1000
+    for name, data, kind in (("nothing", words, "list"), ("no line feed", words + b"nanorand public draw 2", "list"),
+                             ("a record", words + texts["record"], "record"),
+                             ("a quoted title", words + b"> \tnanorand public draw 1 \r\n", "record"),
+                             ("an announcement", words + texts["announcement"], "announcement")):
+        begin(page, "check")
+        page.open_file(data)
+        wanted = {**BEFORE, kind: sha256(data).encode() if kind == "list" else data.replace(b"\r", b"")}
+        try:
+            wait_for(page, wanted)
+        except DriverError:
+            pass
+        counts.same(f"{name} below words of titles", held(page), wanted)
+
+
 def announced_in_a_mail(counts: Counts, page: Page, texts: Dict[str, bytes]) -> None:
     """A file with an announcement below other text is no list to check: it goes into its field, with what to do."""
     for name, text in (("a mail", b"Dear all,\n\n" + texts["announcement"]),
@@ -459,7 +476,7 @@ def run(counts: Counts, page: Page, program: str, module: bytes) -> None:
     page.browser.size(1000, 900)
     texts = texts_of(program, module)
     for part in (together, two_of_a_kind, together_for_a_draw, opened, fast, three_at_once, lost, below_a_mail,
-                 announced_in_a_mail, on_a_field, mails, uncompared, published, marks):
+                 words_of_titles, announced_in_a_mail, on_a_field, mails, uncompared, published, marks):
         part(counts, page, texts)
     commands(counts, page, texts, program)
     page.load()
