@@ -2,10 +2,11 @@
 # Compiles rust/nanorand-proved for other targets: tests/targets.sh. The last line is N passed, M failed.
 #
 # For each target whose std the oldest supported compiler has, it compiles the library with and without its feature std,
-# and runs the library's tests/targets/program.rs if there are a linker and a command that runs it. Under qemu it also
-# runs the unit tests of the two files with unsafe code, which compare NEON with scalar code. The numbers of the system
-# call for each processor are compared with those of the crate libc. NANORAND_OLDEST names the folder that has bin/rustc
-# (/usr by default), and NANORAND_STD a folder with the std of further targets.
+# and runs the library's tests/targets/program.rs if there are a linker and a command that runs it. For ARM with NEON and
+# for a big-endian processor it also runs the unit tests of the two files with unsafe code, which compare vectors with
+# scalar code. The numbers of the system call for each processor are compared with those of the crate libc.
+# NANORAND_OLDEST names the folder that has bin/rustc (/usr by default), and NANORAND_STD a folder with the std of
+# further targets.
 # shellcheck source=tests/lib.sh
 source "$(dirname "${BASH_SOURCE[0]}")/lib.sh"
 oldest=${NANORAND_OLDEST:-/usr}
@@ -72,7 +73,7 @@ run_program() {
     esac
     step timeout 300 "${@:3}" "$(ls "$out/$1"/program{,.exe,.wasm} 2>/dev/null)"
     case $1 in *windows*) timeout 60 wineserver64 -w ;; esac
-    case $3 in qemu-*) run_unit_tests "$@" ;; esac
+    case $1 in aarch64-* | s390x-*) run_unit_tests "$@" ;; esac
 }
 
 # The unit tests of simd.rs and system.rs, without one that asks for more memory than qemu may have.
