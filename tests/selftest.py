@@ -257,10 +257,12 @@ def ran(command, folder, **environment):
 
 
 def stand_in(path, first=""):
-    """Writes a program that records its call and passes. The call BAD prints TEXT and ends with STATUS instead."""
+    """Writes a program that records its call and passes. The call BAD prints TEXT and ends with STATUS instead. The
+    program BUSY first takes four seconds of processor time."""
     path.parent.mkdir(parents=True, exist_ok=True)
     path.write_text(f"#!/bin/sh\n{first}\n" + """
 echo "$0 $*" >>"$CALLS"
+case "$0" in *"${BUSY:-none}") (ulimit -t 4; while :; do :; done) ;; esac
 case "$0 $*" in
     "$BAD" | */"$BAD" | "$BAD " | */"$BAD ") printf '%s\\n' "$TEXT"; exit "$STATUS" ;;
 esac
@@ -285,11 +287,11 @@ def calls_of_whole(room):
     ran(["git", "add", "tracked"], room)
 
 
-def whole(room, bad, text, status):
+def whole(room, bad, text, status, busy="none"):
     calls = room / "calls"
     calls.write_text("")
     done = ran(["./test"], room, PATH=f"{room / 'bin'}:{os.environ['PATH']}", CALLS=str(calls), BAD=bad, TEXT=text,
-               STATUS=str(status))
+               STATUS=str(status), BUSY=busy)
     made = [line.strip().removeprefix(f"{room}/bin/") for line in calls.read_text().splitlines()]
     return made, done.stdout.splitlines(), done.returncode
 
@@ -297,7 +299,7 @@ def whole(room, bad, text, status):
 def sums(counts, room):
     """Each part is called, and the sum counts how it ends."""
     calls_of_whole(room)
-    made, lines, status = whole(room, "none", "", 0)
+    made, lines, status = whole(room, "none", "", 0, busy="tests/links.py")
     files = [path.name for path in (ROOT / "tests").iterdir() if path.is_file()]
     names = {f"tests/{name}" for name in files if name not in NO_PARTS}
     # These parts run once for what the kit builds, and once for what cargo builds.
@@ -311,8 +313,10 @@ def sums(counts, room):
     all_passed = 7 * (len(made) - 1) + 1
     counts.same("the sum", (lines[-1], status), (f"{all_passed} passed, 0 failed", 0))
     times = [line for line in lines if re.fullmatch(r".+: [\d.]+ minutes, [\d.]+ processor-minutes", line)]
-    counts.same("the times, and those of ten parts again", len(times), len(made) + 10)
-    counts.same("the times of ten parts come last", lines[-11:-1], times[-10:])
+    counts.same("the times, those of ten parts again, and that of all", len(times), len(made) + 11)
+    counts.same("the times of ten parts, and that of all, come last", lines[-12:-1], times[-11:])
+    counts.same("the longest part", times[-11].split(", ")[-1], "0.1 processor-minutes")
+    counts.same("the time of all", bool(re.fullmatch(r"all: 0\.\d minutes, 0\.[1-4] processor-minutes", times[-1])), True)
     for call in made:
         # One part is tested with every kind of end, the others with the kind that is easily overlooked.
         for kind in KINDS if call == "tests/quotes.py" else ["its status alone fails"]:
@@ -323,7 +327,7 @@ def sums(counts, room):
             wanted = f"{all_passed - of_call + passed} passed, {failed} failed", int(failed > 0)
             counts.same(f"{call}: {kind}", (lines[-1], status), wanted)
             if "skipped: " in text:
-                counts.same(f"{call}: the skip is named again", lines[-13], "skipped: a compiler")
+                counts.same(f"{call}: the skip is named again", lines[-14], "skipped: a compiler")
 
 
 def quick(counts, room):

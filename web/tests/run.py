@@ -40,7 +40,7 @@ import said
 import shell
 import steps
 from counts import Counts, sha256
-from drivers import Chromium, DriverError, Firefox, start
+from drivers import Chromium, DriverError, Firefox, count_orphans, start
 from page import Page
 
 OUT = Path(__file__).resolve().parent.parent / "dist"
@@ -116,6 +116,7 @@ def main() -> int:
     reader.add_argument("--only", default="")
     wanted = reader.parse_args()
     program = str(Path(wanted.program).resolve())
+    count_orphans()
     with tempfile.TemporaryDirectory() as folder, ThreadPoolExecutor() as pool:
         pictures = wanted.pictures or Path(folder)
         pictures.mkdir(exist_ok=True)
