@@ -35,9 +35,9 @@ impl std::error::Error for EntropyError {}
 /// Fills the slice with the next bytes of the reader, and takes exactly that many. It does not ask
 /// the operating system: [`system::fill`](crate::system::fill) does.
 ///
-/// That it fills the slice with these bytes, and takes no others, is proved for readers such as a
-/// slice of bytes. The reader may return the bytes in pieces of any size. For an empty slice, the
-/// function returns `Ok` and reads nothing.
+/// For readers such as a slice of bytes, it is proved that the function fills the slice with these
+/// bytes, and takes no others. The reader may return the bytes in pieces of any size. For an empty
+/// slice, the function returns `Ok` and reads nothing.
 ///
 /// # Errors
 ///

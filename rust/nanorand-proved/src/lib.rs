@@ -28,10 +28,10 @@
 //! # let _ = coin;
 //! ```
 //!
-//! Draw a number from a range. Each number of the range is produced by the same number of words,
-//! where a word is a random integer of N bits. An empty range returns an error, and draws nothing.
-//! If you know that the range is not empty, use `range`, which returns the number without a
-//! `Result`:
+//! Draw a number from a range. Each number of an integer range is produced by the same number of
+//! words, where a word is a random integer of N bits. An empty range returns an error, and draws
+//! nothing. If you know that the range is not empty, use `range`, which returns the number without
+//! a `Result`:
 //!
 //! ```
 //! use nanorand_proved::{RangeError, Rng, WyRand};

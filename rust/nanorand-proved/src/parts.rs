@@ -65,10 +65,12 @@ pub trait Parts<const OUTPUT: usize = 8>: Rng<OUTPUT> {
     /// Returns the generator at the beginning of a part, which is `index * draws` draws ahead. This
     /// generator does not change.
     ///
+    /// Nothing stops a task at the end of its part: if it draws more than `draws` draws, it
+    /// continues in the next part.
+    ///
     /// # Errors
     ///
-    /// Returns `PastPeriod` if and only if the part ends beyond the period. Nothing stops a task at
-    /// the end of its part: if it draws more than `draws` draws, it continues in the next part.
+    /// Returns `PastPeriod` if and only if the part ends beyond the period.
     fn part(&self, index: u64, draws: u64) -> Result<Self, PastPeriod>;
 }
 

@@ -81,7 +81,7 @@ pub use wyrand::WyRand;
 ///
 /// - E0599, "no method named `range` found for type parameter `R`", or, for a parameter
 ///   `rng: &mut R`, "the method `range` exists for mutable reference `&mut R`, but its trait bounds
-///   were not satisfied", with the help `R: AnyRng + Rng`: do not follow it, but call
+///   were not satisfied", with the help `R: AnyRng + Rng`: ignore this help, and call
 ///   `rng.rng().range(..)`.
 /// - E0207, "the const parameter `N` is not constrained": a struct needs `N` as a parameter of its
 ///   own, or `R: AnyRng` in place of `R: Rng<N>`.

@@ -106,12 +106,14 @@ pub fn sample_with<G: Rng<OUTPUT>, const OUTPUT: usize>(
 
 /// Continues a sample: keeps the first `filled` slots, and fills the others.
 ///
-/// Use it to draw a long sample in pieces. First pass only the first k slots of the slice, and
-/// `count - (places.len() - k)` as `count`: in a sample of `places.len()` numbers below `count`,
-/// the first k slots are a sample of the numbers below that number. If `filled` is 0, this is
-/// `sample_with`, which describes the table. The slots that are kept are linked into the table
-/// again, which takes O(k). If you keep numbers that agree in their low bits, unlike those of a
-/// sample, they are in one chain, and the time is up to O(k^2).
+/// Use it to draw a long sample in pieces. In a sample of `places.len()` numbers below `count`, the
+/// first k slots are a sample of the numbers below `count - (places.len() - k)`. So first pass only
+/// these k slots, with that smaller count, and then the whole slice, with the whole count and with
+/// k as `filled`. If `filled` is 0, this is `sample_with`, which describes the table.
+///
+/// The slots that are kept are linked into the table again, which takes O(k). If you keep numbers
+/// that do not come from a sample and agree in their low bits, they are in one chain, and the time
+/// is up to O(k^2).
 ///
 /// Precondition: the kept slots hold different numbers below `count - places.len() + filled`. Then
 /// all slots hold different numbers below `count` afterwards.
@@ -245,8 +247,9 @@ fn draw_up_to<G: Rng<OUTPUT>, const OUTPUT: usize>(
 ///
 /// Returns the number of filled slots: all of them, unless the iterator ends earlier. The slots
 /// after these are unchanged. For n items and k slots, n steps are taken and n - k numbers are
-/// drawn (none if n is at most k). No memory is needed apart from the slots. If the items are in a
-/// slice, `samples::sample` of their indices draws only k numbers.
+/// drawn (none if n is at most k). So without slots, a number is drawn for each item. No memory is
+/// needed apart from the slots. If the items are in a slice, `samples::sample` of their indices
+/// draws only k numbers.
 ///
 /// Each set of k items is produced by the same number of sequences of draws. The order of the slots
 /// is not uniform: item 0 can only be in slot 0. Shuffle the slots if you need a random order.
@@ -258,7 +261,7 @@ fn draw_up_to<G: Rng<OUTPUT>, const OUTPUT: usize>(
 /// Returns `Exhausted`, the only error, if 128 words (random integers of 64 bits) in a row were
 /// rejected for one item. That item is dropped, and the items after it are not taken: pass
 /// `&mut iterator` to keep them. The slots then hold a sample of the items before it, and the words
-/// stay consumed. If there are no slots, a number is drawn for each item all the same.
+/// stay consumed.
 ///
 /// # Examples
 ///

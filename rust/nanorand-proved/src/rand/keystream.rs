@@ -76,8 +76,8 @@ pub trait Keystream<const OUTPUT: usize>: Rng<OUTPUT> {
     /// `at_block` or moved by `seek`. A request for n bytes adds n to it, modulo 2^70.
     ///
     /// A buffered generator that was created by `BufferedRng::with_rest`, or that was reseeded, may
-    /// hold buffered bytes of another stream, or of none. They are delivered next and counted all
-    /// the same, until a `seek`.
+    /// hold buffered bytes of another stream, or of none. They are delivered next, and the number
+    /// counts them too, until a `seek`.
     fn position(&self) -> u128;
 }
 

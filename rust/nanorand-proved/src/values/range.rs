@@ -49,10 +49,10 @@ impl std::error::Error for RangeError {}
 /// **Floats.** The value is `low + (high - low) * part`, rounded. Let k be the top 53 bits of a
 /// 64-bit word. `part` is k / 2^53 if `high` is excluded, and k / (2^53 - 1) if it is included, so
 /// that `high` can occur. For `f32` it is the same with the top 24 bits of a 32-bit word. An
-/// unbounded side ends at the least or greatest finite number of the type. A number that rounding
-/// moves to an excluded bound is rejected and the next word is used, with at most 128 words.
-/// Because of the rounding, the numbers are not exactly equally likely, and on x86 without SSE2
-/// their last bit may differ.
+/// unbounded side ends at the least or greatest finite number of the type. A number that equals an
+/// excluded bound, as rounding may cause, is rejected, and the next word is used; at most 128 words
+/// are drawn. Because of the rounding, the numbers are not exactly equally likely, and on x86
+/// without SSE2 their last bit may differ.
 ///
 /// A type of your own defines what its bounds mean and when a draw fails.
 #[cfg_attr(

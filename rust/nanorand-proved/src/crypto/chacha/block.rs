@@ -5,8 +5,8 @@ use super::vectors::Vector;
 
 /// Returns the matrix after `ROUNDS` rounds, without the final addition of the input.
 ///
-/// A double round is one round on the columns and then one on the diagonals. An odd `ROUNDS` does
-/// not compile.
+/// The rounds come in pairs: one round on the columns, and then one on the diagonals. An odd
+/// `ROUNDS` does not compile.
 #[must_use]
 pub fn chacha_rounds<const ROUNDS: u8>(input: [u32; 16]) -> [u32; 16] {
     let () = crate::layer::Rounds::<ROUNDS>::EVEN;
