@@ -50,8 +50,8 @@ pub fn system(out: &mut [u8]) {
     }
 }
 
-/// Stands in for the instruction of the processor, which is never executed. Always returns `None`
-/// and leaves the slice unchanged.
+/// Stands in for a random-number instruction of the processor, which is never executed. Always
+/// returns `None` and leaves the slice unchanged.
 pub fn rdseed(out: &mut [u8]) -> Option<usize> {
     nanorand_proved::entropy::rdseed(out)
 }
@@ -66,6 +66,10 @@ pub fn backup(_: &mut [u8]) {
 }
 
 /// Calls [`backup`]. `nanorand` 0.7.0 has this name without the feature `std`.
+///
+/// # Panics
+///
+/// Always panics.
 pub fn backup_entropy(out: &mut [u8]) {
     backup(out);
 }

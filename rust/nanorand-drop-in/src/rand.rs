@@ -46,7 +46,7 @@ pub trait Rng<const OUTPUT: usize>: Clone {
     }
 
     /// Fills the slice with values, drawn one after another. To fill a slice of bytes, call
-    /// `fill_bytes`: `fill` draws a block for each byte.
+    /// `fill_bytes`: `fill` draws a block for each byte, unless the generator has a buffer.
     #[inline]
     fn fill<T, Items>(&mut self, mut target: Items)
     where

@@ -38,8 +38,11 @@ pub struct ChaCha<const ROUNDS: u8> {
 super::wiped::wiped!([const ROUNDS: u8] ChaCha<ROUNDS>: state);
 
 impl<const ROUNDS: u8> ChaCha<ROUNDS> {
-    /// Creates a generator with a key and a nonce from the operating system. Panics if the system
-    /// provides none.
+    /// Creates a generator with a key and a nonce from the operating system.
+    ///
+    /// # Panics
+    ///
+    /// Panics if the system provides no random bytes.
     #[must_use]
     pub fn new() -> Self {
         Self::new_key(system_seed(), system_seed())

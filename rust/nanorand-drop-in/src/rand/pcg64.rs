@@ -21,8 +21,11 @@ pub struct Pcg64 {
 super::wiped::wiped!([] Pcg64: seed, state, inc);
 
 impl Pcg64 {
-    /// Creates a generator with a seed from the operating system. Panics if the system provides
-    /// none.
+    /// Creates a generator with a seed from the operating system.
+    ///
+    /// # Panics
+    ///
+    /// Panics if the system provides no seed.
     #[must_use]
     pub fn new() -> Self {
         Self::new_seed(u128::from_le_bytes(system_seed()))

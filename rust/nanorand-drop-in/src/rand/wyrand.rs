@@ -18,8 +18,11 @@ pub struct WyRand {
 super::wiped::wiped!([] WyRand: seed);
 
 impl WyRand {
-    /// Creates a generator with a seed from the operating system. Panics if the system provides
-    /// none.
+    /// Creates a generator with a seed from the operating system.
+    ///
+    /// # Panics
+    ///
+    /// Panics if the system provides no seed.
     #[must_use]
     pub fn new() -> Self {
         Self::new_seed(u64::from_le_bytes(system_seed()))
