@@ -13,12 +13,12 @@
 //! assert_eq!(rng, Core::from_seed(rng.0.seed().to_le_bytes()));
 //! ```
 //!
-//! It also works with your own generator. No generator implements `CryptoRng`: for keys, tokens and
-//! passwords, or if there is an adversary, use a vetted cryptographic generator.
+//! [`Core`] also works with your own generator. No generator implements `CryptoRng`: for keys,
+//! tokens and passwords, or if there is an adversary, use a vetted cryptographic generator.
 //!
 //! `from_seed` of `WyRand` and `Pcg64` uses the bytes as the state, without mixing them: generators
-//! with neighbouring seeds draw correlated numbers. `seed_from_u64` mixes its number. It is the
-//! function of the generator, which uses SplitMix64, and not the one that `rand_core` provides,
+//! with neighbouring seeds draw correlated numbers. `seed_from_u64` mixes its number. It calls the
+//! generator's own function, which uses SplitMix64, in place of the one that `rand_core` provides,
 //! which uses PCG32.
 //!
 //! For many numbers of ChaCha, wrap a stream, such as
