@@ -69,12 +69,14 @@ def draw(seed: Seed, entrants: object, count: Optional[SupportsIndex] = None) ->
     seed : str, bytes, bytearray or memoryview
         A text, or its bytes in UTF-8.
     entrants : bytes, bytearray, memoryview or sequence
-        A list, whose lines are the entrants, or a sequence, whose items are.
+        A list as bytes, whose lines are the entrants, or a sequence, whose items are the entrants.
     count : int, optional
         Number of entrants to draw. By default all of them are drawn.
 
     Raises
     ------
+    OutOfBounds
+        If `count` is below 0, or 2^64 or more.
     EmptySeed
         If the seed is empty.
     SeedNotText

@@ -120,8 +120,8 @@ class GeneratorBits(BitGenerator):
     def state(self) -> "dict[str, Any]":
         """The state, in the form that NumPy uses, which can be stored as JSON. Assign to it to set the state.
 
-        It has the name of the class, the generator's `state_dict`, and the half of a word to be drawn next. The
-        generator's `state`, as bytes, can be assigned too.
+        It has the name of the class, the generator's `state_dict`, and the half of a word to be drawn next. In a state
+        that you assign, the generator's `state`, as bytes, may stand in place of the `state_dict`.
 
         >>> bits = WyRandBits(42)
         >>> saved = bits.state

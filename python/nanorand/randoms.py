@@ -11,8 +11,8 @@ with the seeds 0, 1, 2, .. are unrelated. What is hashed depends on the type of 
 - For an int, the byte 0xFF, `int ` and the number as `hex` writes it, such as `int 0x2a`.
 - For a float, the byte 0xFF, `float ` and the number as `float.hex` writes it.
 
-None takes a seed from the operating system. To draw the same words as a generator of the package,
-assign that generator to the attribute `generator`.
+For None, the seed comes from the operating system. To draw the same words as a generator of the
+package, assign that generator to the attribute `generator`.
 
 None of the classes is a vetted cryptographic generator: for keys, tokens and passwords, or if there
 is an adversary, use a vetted generator.
