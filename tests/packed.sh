@@ -31,13 +31,21 @@ put_into_the_registry() {
     done
 }
 
+# Gives the unpacked package $1 a folder of its own.
+unpacked() {
+    rm -rf "$work/alone"
+    step cp -r "$(compgen -G "$shelf/$1-[0-9]*" | grep -E "/$1-[0-9.]+$")" "$work/alone"
+}
+
 # Runs the tests of the unpacked package $1, with further arguments of cargo.
 tests_alone() {
-    local folder
-    folder=$(compgen -G "$shelf/$1-[0-9]*" | grep -E "/$1-[0-9.]+$")
-    step cp -r "$folder" "$work/alone" || return
+    unpacked "$1" || return
     cargo_tests "${oldest[@]}" test "${from_registry[@]}" --manifest-path "$work/alone/Cargo.toml" "${@:2}"
-    rm -rf "$work/alone"
+}
+
+# Compiles the unpacked package $1 and its tests with its default features.
+compiles_alone() {
+    unpacked "$1" && step "${oldest[@]}" check --tests "${from_registry[@]}" --manifest-path "$work/alone/Cargo.toml"
 }
 
 # Packs and tests the package in rust/$1, whose name is $2, with further arguments of cargo. It needs others of the
@@ -54,7 +62,8 @@ crates_of_others() {
 }
 
 if [ "$(cargo --version | sed -nE 's/^cargo 1\.([0-9]+)\..*/\1/p')" -lt 90 ]; then
-    skip_all 'the packed packages' 'cargo packs those that depend on each other from 1.90 on'
+    skip_all 'the packed packages, and their tests with the oldest compiler' \
+        'cargo packs packages that depend on each other from 1.90 on'
 fi
 version=$(sed -n 's/^rust-version = "\(.*\)"$/\1/p' Cargo.toml)
 if is_version "$version" "$oldest_bin/rustc"; then
@@ -67,15 +76,17 @@ mkdir "$shelf"
 step grep -qx 'publish = false' rust/nanorand-c/Cargo.toml
 step packs --offline --workspace --exclude nanorand-answers
 step put_into_the_registry
-# Skipped, because they are slow without full optimization: the sweeps, and the lists of all sizes of the programs.
-tests_alone nanorand-proved -- --skip sweeps::
+# Skipped, because they are slow without full optimization: the sweeps, and the lists of all sizes of the programs. The
+# library's tests run once without the checks of a debug build, as in a program that is built for release.
+CARGO_PROFILE_DEV_DEBUG_ASSERTIONS=false CARGO_PROFILE_DEV_OVERFLOW_CHECKS=false \
+    tests_alone nanorand-proved -- --skip sweeps::
 tests_alone nanorand-proved --no-default-features --lib --tests -- --skip sweeps::
 for name in nanorand-program lots draw; do
     CARGO_PROFILE_DEV_OPT_LEVEL=1 tests_alone "$name" -- --skip all_
 done
 if crates_of_others getrandom-0.2. zeroize-1.; then
     # The name of the drop-in's package is that of the crate which it replaces.
-    outside_the_workspace nanorand-drop-in nanorand --all-features
+    outside_the_workspace nanorand-drop-in nanorand --all-features && compiles_alone nanorand
 else
     skip 'the packed drop-in' 'the crates getrandom and zeroize are not there'
 fi

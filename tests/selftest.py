@@ -705,6 +705,7 @@ RT = """#!/bin/sh
 """
 CHECK = """#!/bin/sh
 echo called >>"$CALLS"
+eval "${MEANWHILE:-}"
 refused() { echo "./proofs/$1/Answers.antt:1:1: error: \\`$2\\`: no"; echo "fn low::$1: not proved"; status=1; }
 status=0
 case $(sed -n 4p src/lib.rt) in *7*) refused one returns ;; *) echo 'fn low::one: proved' ;; esac
@@ -754,7 +755,7 @@ def kept_mutants(counts, room, tried, texts):
     """Mutants that passed are not tried again, until something changes that their check reads: on this machine, or on
     any machine if they are recorded. One that failed is."""
     edits, kept = room / "crates/low/mutants/lib.edits", {"KEPT": str(room / "kept")}
-    both, none = (3, "2 passed, 0 failed", 0), (0, "2 passed, 0 failed", 0)
+    both, none = (3, "2 passed, 0 failed", 0), (0, "0 passed, 0 failed", 0)
     (room / "crates.txt").write_text("under:\nlow: under\n", encoding="utf-8")
     edits.write_text("\n".join(texts).replace("at \n", "at value\n"), encoding="utf-8")
     for name in ("", "crates/low/src/lib.rt", "crates/low/specs/Sums.antt", "crates/low/proofs/lemmas/Sums.antt",
@@ -773,6 +774,7 @@ def kept_mutants(counts, room, tried, texts):
     counts.same("mutants with a record, and all", tried("--all", **kept), both)
     for name in ("low/one", "low/two"):
         counts.same(f"{name} by its name, with a record", tried(name, **kept), (2, "1 passed, 0 failed", 0))
+    changed_mutants(counts, room, tried)
     (room / "crates/low/mutants/passed.txt").unlink()
     counts.same("mutants with nothing kept", tried(KEPT=""), both)
     counts.same("one of the mutants", tried("--record", "low/one", KEPT=""), (2, "1 passed, 0 failed", 0))
@@ -788,12 +790,34 @@ def kept_mutants(counts, room, tried, texts):
     counts.same("mutants without stored answers", tried("--anew", **kept), both)
     counts.same("what was unused for a month", [path.exists() for path in ages], [True, False])
     edits.write_text(edits.read_text(encoding="utf-8").replace("one() + 7", "two() + 7"), encoding="utf-8")
-    counts.same("a mutant with another text", tried(**kept), (2, "2 passed, 0 failed", 0))
+    counts.same("a mutant with another text", tried(**kept), (2, "1 passed, 0 failed", 0))
     edits.write_text("\n".join(texts), encoding="utf-8")
     for turn in ("once", "twice"):
-        counts.same(f"a mutant that fails, tried {turn}", tried(**kept), (2, "1 passed, 1 failed", 1))
-    counts.same("a mutant that fails is not recorded", tried("--record", **kept), (2, "1 passed, 1 failed", 1))
+        counts.same(f"a mutant that fails, tried {turn}", tried(**kept), (2, "0 passed, 1 failed", 1))
+    counts.same("a mutant that fails is not recorded", tried("--record", **kept), (2, "0 passed, 1 failed", 1))
     counts.same("nor has it a record", (room / "crates/low/mutants/passed.txt").exists(), False)
+
+
+def changed_mutants(counts, room, tried):
+    """A record does not fit mutants that have changed since, and is not written if a file changes meanwhile."""
+    edits, record = room / "crates/low/mutants/lib.edits", room / "crates/low/mutants/passed.txt"
+    own, recorded = edits.read_text(encoding="utf-8"), record.read_text(encoding="utf-8")
+    for old, new in [("new: 1 + 7", "new: 7 + 0"), ("mutant one", "mutant first"),
+                     ("mutant one", "mutant three, refused at value\nold: 1 + 0\nnew: 1 + 71\n\nmutant one")]:
+        edits.write_text(own.replace(old, new), encoding="utf-8")
+        checks, last, status = tried(KEPT="")
+        counts.same(f"mutants with a record, {new!r} for {old!r}",
+                    (checks > 0, last, status), (True, f"{own.replace(old, new).count('mutant ')} passed, 0 failed", 0))
+        edits.write_text(own, encoding="utf-8")
+    for name, change in [(edits, "s/mutant one/mutant first/"), (room / "crates/under/src/lib.rt", "$a//"),
+                         (room / "crates/low/specs/Sums.antt", "$a--")]:
+        text = name.read_text(encoding="utf-8")
+        record.unlink()
+        found = tried("--record", KEPT="", MEANWHILE=f"sed -i '{change}' {name}")
+        counts.same(f"mutants tried while {name.name} changes", (found[1:], record.exists()),
+                    (("2 passed, 0 failed", 0), False))
+        name.write_text(text, encoding="utf-8")
+        record.write_text(recorded, encoding="utf-8")
 
 
 # Definitions and lemmas of a crate, and what each depends on.

@@ -4,7 +4,7 @@
 # For each target whose std the oldest supported compiler has, it compiles the library with and without its feature std,
 # and runs the library's tests/targets/program.rs if there are a linker and a command that runs it. For ARM with NEON and
 # for a big-endian processor it also runs the unit tests of the two files with unsafe code, which compare vectors with
-# scalar code. The numbers of the system call for each processor are compared with those of the crate libc.
+# scalar code; for 32-bit processors, only those of system.rs. The numbers of the system call for each processor are compared with those of the crate libc.
 # NANORAND_OLDEST names the folder that has bin/rustc (/usr by default), and NANORAND_STD a folder with the std of
 # further targets.
 # shellcheck source=tests/lib.sh
@@ -73,13 +73,19 @@ run_program() {
     esac
     step timeout 300 "${@:3}" "$(ls "$out/$1"/program{,.exe,.wasm} 2>/dev/null)"
     case $1 in *windows*) timeout 60 wineserver64 -w ;; esac
-    case $1 in aarch64-* | s390x-*) run_unit_tests "$@" ;; esac
+    case $1 in
+    aarch64-* | s390x-*) run_unit_tests src/lib.rs 'simd:: system::' "$@" ;;
+    i686-* | armv7-*) run_unit_tests src/system.rs '' "$@" ;;
+    esac
 }
 
-# The unit tests of simd.rs and system.rs, without one that asks for more memory than qemu may have.
+# run_unit_tests FILE NAMES TARGET LINKER RUNNER..: the unit tests with these names in the file and its modules, without
+# one that asks for more memory than qemu may have. The functions of a file alone may be unused.
 run_unit_tests() {
-    step compile "$1" -C "linker=$2" --crate-name unit_tests --test --cfg 'feature="std"' src/lib.rs || return
-    cargo_tests timeout 600 env NANORAND_STATES=1000 "${@:3}" "$out/$1/unit_tests" --test-threads=1 simd:: system:: \
+    local names=()
+    read -ra names <<<"$2"
+    step compile "$3" -C "linker=$4" --crate-name unit_tests --test --cfg 'feature="std"' -A dead_code "$1" || return
+    cargo_tests timeout 600 env NANORAND_STATES=1000 "${@:5}" "$out/$3/unit_tests" --test-threads=1 "${names[@]}" \
         --skip more_than_4_gibibytes
 }
 

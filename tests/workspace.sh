@@ -232,7 +232,8 @@ fi
 all_covered "$coverage" "${sources[@]}"
 cargo_tests cargo test --offline --workspace --doc
 # Optimized: all tests but `behaviour` and `calls`, which take minutes to compile, and doctests, which no profile
-# optimizes. The table of answers has all calls. There are a million states for each vector body that this machine has.
+# optimizes. tests/packed.sh runs these two without the checks of a debug build. There are a million states for each
+# vector body that this machine has.
 cargo_tests env NANORAND_STATES=1000000 cargo test --offline --release -p nanorand-proved -p nanorand-answers --lib \
     --test answers --test chacha_lanes --test getrandom --test no_file --test refused --test streams
 cargo_tests cargo test --offline --no-default-features --doc -p nanorand-proved

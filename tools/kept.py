@@ -63,10 +63,13 @@ class Kept:
         path = self.crate / RECORD
         return path.is_file() and path.read_text(encoding="utf-8") == self.record()
 
-    def write_record(self):
-        """Writes the record, unless a file changed since this object was made."""
-        if self.sum == self.current_sum():
+    def write_record(self, tried):
+        """Writes the record, unless these are not all mutants of the crate, or a file changed since this object was
+        made."""
+        if self.sum == self.current_sum() and list(tried) == list(edits_of(self.crate)):
             (self.crate / RECORD).write_text(self.record(), encoding="utf-8")
+        else:
+            print(f"note: {self.crate.name} is not recorded, as files changed while its mutants were tried", flush=True)
 
     def has(self, edit):
         """Whether this mutant passed in an earlier run. Its entry then counts as used now."""

@@ -675,8 +675,8 @@ class Lists(unittest.TestCase):
 
     @once
     def test_long_shuffles_are_those_of_the_library(self):
-        """Of lists, which make steps of their own above a length, and of arrays, which are shuffled in one call. Only
-        one class draws the greatest lengths again in Python, which takes long."""
+        """Of lists and of arrays. Both make steps of their own above a length. One class draws all lengths again in
+        Python, and one that holds a buffer a great one, since that takes long."""
         for kind in CLASSES.values():
             for length in (2**13, 2**13 + 1, 2**17, 2**17 + 1, 2**17 + 31, 2**17 + 2**13 + 33):
                 for name in ("shuffle", "shuffle_full"):
@@ -687,7 +687,7 @@ class Lists(unittest.TestCase):
                     getattr(other, name)(array_of)
                     self.assertTrue(array_of.tolist() == items, (kind, length, name))
                     self.assertEqual(rng, other)
-                    if length < 2**14 or kind is Pcg64:
+                    if length < 2**14 or kind is Pcg64 or (kind, length) == (Stream, 2**17 + 31):
                         self.assertTrue(items == self.exchanged(same, length, name == "shuffle_full"))
                         self.assertEqual(rng, same)
 

@@ -12,7 +12,7 @@ from records import NAMED, record_of
 
 ALPHABETS = [(0x30, 0x3A), (0x20, 0x7F), (0xA0, 0x800), (0x800, 0xD800), (0x10000, 0x110000), (0x01, 0x0D)]
 LENGTHS = [1, 2, 5, 20, 31, 32, 33, 55, 56, 57, 63, 64, 65, 119, 120, 200]
-# More arguments than a call takes.
+# More arguments than a call takes, of bytes or of letters.
 LONG = {"Chromium": 200_000, "Firefox": 600_000}
 ROOM = 65536
 # Records the addresses of files, and what is to be done later.
@@ -117,7 +117,7 @@ def sizes(counts: Counts, page: Page, program: str, module: str) -> None:
 
 
 def long_entrants(counts: Counts, page: Page, program: str, module: str) -> None:
-    """Draws and checks entrants of more bytes than a browser accepts as arguments of one call."""
+    """Draws and checks entrants of more bytes, and of more letters, than a browser accepts as arguments of one call."""
     page.load()
     long = LONG[page.browser.name]
     counts.same("as arguments of one call", page.browser.run("""
@@ -126,9 +126,10 @@ def long_entrants(counts: Counts, page: Page, program: str, module: str) -> None
         } catch (error) {
           return error.name;
         }""", long), "RangeError")
-    for name, letter in (("letters", b"a"), ("wide letters", "\u6f22".encode()), ("backslashes", b"\\"),
-                         ("no UTF-8", b"\xff"), ("any bytes", bytes(set(range(256)) - {10}))):
-        data = letter * (long // len(letter)) + b"\nb\n"
+    for name, entrant in (("letters", b"a" * long), ("wide letters", "\u6f22".encode() * long),
+                          ("backslashes", b"\\" * long), ("no UTF-8", b"\xff" * long),
+                          ("any bytes", bytes(set(range(256)) - {10}) * (long // 255 + 1))):
+        data = entrant + b"\nb\n"
         page.open_file(data)
         page.fill("seed", "all")
         shown = compare(counts, page, program, module, f"a long entrant of {name}", "seed", "all", data)

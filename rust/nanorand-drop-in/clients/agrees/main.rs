@@ -99,7 +99,7 @@ fn texts_of_plain_seeds() {
 }
 
 #[test]
-fn ten_million_calls() {
+fn three_million_calls() {
     quiet();
     let mut faults = Faults::new();
     for seed in 0..SEEDS {
