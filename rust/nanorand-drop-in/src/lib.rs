@@ -2,8 +2,8 @@
 //! of [`nanorand_proved`].
 //!
 //! Use it where a program depends on `nanorand` 0.7: it has the same names, and the same seeds
-//! produce the same numbers. Where 0.7.0 does not do what it documents, this crate does what is
-//! documented; its README lists each such function.
+//! produce the same numbers, except where 0.7.0 does not do what it documents. There this crate
+//! does what is documented; its README lists each such function.
 //!
 //! **`WyRand` and `Pcg64` are not cryptographically secure.** Never use them to generate a key, a
 //! token or a password. `ChaCha` has not been audited and is not a vetted cryptographic generator
