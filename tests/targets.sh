@@ -84,7 +84,8 @@ run_program() {
 run_unit_tests() {
     local names=()
     read -ra names <<<"$2"
-    step compile "$3" -C "linker=$4" --crate-name unit_tests --test --cfg 'feature="std"' -A dead_code "$1" || return
+    step compile "$3" -C "linker=$4" --crate-name unit_tests --test --cfg 'feature="std"' \
+        -A dead_code -D unsafe_op_in_unsafe_fn "$1" || return
     cargo_tests timeout 600 env NANORAND_STATES=1000 "${@:5}" "$out/$3/unit_tests" --test-threads=1 "${names[@]}" \
         --skip more_than_4_gibibytes
 }
