@@ -1,5 +1,10 @@
 # What find_package(nanorand) defines: the targets nanorand::static and nanorand::shared.
+# The folder that has lib. If lib is a link and the headers are not beside it, they are beside the folder of the link.
 get_filename_component(nanorand_prefix "${CMAKE_CURRENT_LIST_DIR}/../../.." ABSOLUTE)
+if(NOT EXISTS "${nanorand_prefix}/include/nanorand.h")
+    get_filename_component(nanorand_prefix "${CMAKE_CURRENT_LIST_FILE}" REALPATH)
+    get_filename_component(nanorand_prefix "${nanorand_prefix}/../../../.." ABSOLUTE)
+endif()
 
 if(NOT TARGET nanorand::static)
     add_library(nanorand::static STATIC IMPORTED)

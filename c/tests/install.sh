@@ -153,6 +153,18 @@ by_cmake() {
     check "CMake: ${*:2}" "$(env -u LD_LIBRARY_PATH "$1/build/shuffle" 2>&1 | diff - c/examples/shuffle.out)"
 }
 
+# The library is found if lib is a link to that of another installation, and if it is one out of its own installation.
+linked_folders() {
+    mkdir "$work/linked" "$work/moved"
+    ln -s "$root/lib" "$work/linked/lib"
+    by_cmake "$1" "-DCMAKE_PREFIX_PATH=$work/linked"
+    cp -a "$root/lib" "$work/moved/elsewhere"
+    mkdir "$work/moved/usr"
+    ln -s ../elsewhere "$work/moved/usr/lib"
+    cp -a "$root/include" "$work/moved/usr"
+    by_cmake "$1" "-DCMAKE_PREFIX_PATH=$work/moved/usr"
+}
+
 # Fails if CMake accepts the version $2 of the library for the project in the folder $1.
 refuses_version() {
     rm -rf "$1/build"
@@ -190,6 +202,7 @@ programs_in_cpp() {
     cp c/examples/{CMakeLists.txt,shuffle.cpp} "$work/cmake"
     by_cmake "$work/cmake" "-DCMAKE_PREFIX_PATH=$root"
     check 'the static library by CMake' "$(readelf -d "$work/cmake/build/shuffle" | grep libnanorand)"
+    linked_folders "$work/cmake"
     refuses_version "$work/cmake" 0.99
     refuses_version "$work/cmake" 1.99
     refuses_version "$work/cmake" 2
