@@ -10,6 +10,7 @@
 # and the library and the page's module are compiled with the libraries that it left, because rt would prove all of
 # these again. If BUILT is set, ./test has built the pieces already, and the script does nothing.
 set -euo pipefail
+unset CDPATH # otherwise `cd` may go elsewhere
 cd "$(dirname "$0")/.."
 unset RT_BACKEND
 crate=nanorand_c

@@ -6,6 +6,7 @@
 # It then runs at the top of the repository, $work is a temporary folder, and $passed and $failed count its cases. Its
 # last command is `finish`, which prints the sum and exits.
 set -uo pipefail
+unset CDPATH # otherwise `cd` may go elsewhere
 cd "$(dirname "${BASH_SOURCE[0]}")/.." || exit
 work=$(mktemp -d)
 trap 'rm -rf "$work"' EXIT

@@ -8,6 +8,7 @@
 #
 # The speed of a short loop depends on its address, so each loop begins at the start of a cache line.
 set -euo pipefail
+unset CDPATH # otherwise `cd` may go elsewhere
 cd "$(dirname "$0")/../.."
 work=$(mktemp -d)
 trap 'rm -rf "$work"' EXIT

@@ -11,6 +11,7 @@
 # multiples of 16 bytes. So the program is linked four times, each time with all its code 16 bytes further on: each loop
 # of both sides is measured at each position that it can have.
 set -eu
+unset CDPATH # otherwise `cd` may go elsewhere
 cpu=x86-64-v2
 shifts="0 16 32 48"
 

@@ -8,6 +8,7 @@
 #
 # These are statistical tests. They prove nothing about a generator.
 set -euo pipefail
+unset CDPATH # otherwise `cd` may go elsewhere
 here=$(cd "$(dirname "$0")" && pwd)
 work=$here/../target/quality
 outputs=$work/outputs

@@ -23,6 +23,7 @@
 # multiples of 16 bytes. So the program is linked four times, each time with all its code 16 bytes further on: each loop
 # of each crate is measured at each position that it can have.
 set -euo pipefail
+unset CDPATH # otherwise `cd` may go elsewhere
 here=$(cd "$(dirname "${BASH_SOURCE[0]}")" && pwd)
 original=$(cd "${1:?a folder with nanorand 0.7.0}" && pwd)
 program=speed

@@ -323,6 +323,12 @@ over_an_older_one() {
         "$(install_from . PREFIX="$work/options" CC='no_such_cc -pipe' RUSTC=given >/dev/null && echo 'no error')"
 }
 
+# CDPATH does not lead c/install into another folder that has c/.
+misleading_folder() {
+    mkdir -p "$work/misleading/c"
+    check 'CDPATH' "$(env PATH="$work/bin" CDPATH="$work/misleading" PREFIX="$work/options" RUSTC=given c/install 2>&1)"
+}
+
 # If a tool fails, nothing is installed, nor if there are arguments, such as --prefix.
 failures() {
     local tool compiler=rustc
@@ -347,5 +353,6 @@ programs
 another_folder
 another_version
 over_an_older_one
+misleading_folder
 failures
 finish
