@@ -329,6 +329,16 @@ misleading_folder() {
     check 'CDPATH' "$(env PATH="$work/bin" CDPATH="$work/misleading" PREFIX="$work/options" RUSTC=given c/install 2>&1)"
 }
 
+# Nothing stays in the folder of temporary files, whether the build succeeds or a tool fails.
+no_temporary_files() {
+    local compiler
+    mkdir "$work/temporary"
+    for compiler in given false; do
+        install_from . TMPDIR="$work/temporary" PREFIX="$work/options" RUSTC="$compiler" >/dev/null
+        check "temporary files, RUSTC=$compiler" "$(ls "$work/temporary")"
+    done
+}
+
 # If a tool fails, nothing is installed, nor if there are arguments, such as --prefix.
 failures() {
     local tool compiler=rustc
@@ -354,5 +364,6 @@ another_folder
 another_version
 over_an_older_one
 misleading_folder
+no_temporary_files
 failures
 finish
