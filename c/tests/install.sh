@@ -203,6 +203,7 @@ programs_in_cpp() {
     by_cmake "$work/cmake" "-DCMAKE_PREFIX_PATH=$root"
     check 'the static library by CMake' "$(readelf -d "$work/cmake/build/shuffle" | grep libnanorand)"
     linked_folders "$work/cmake"
+    sizes_of_pointers
     refuses_version "$work/cmake" 0.99
     refuses_version "$work/cmake" 1.99
     refuses_version "$work/cmake" 2
@@ -255,6 +256,22 @@ another_folder() {
         install_from ../another/folder PREFIX=usr DESTDIR=destination TZ=Asia/Kolkata)"
     check 'equal bytes' "$(diff -r "$root" "$work/here/destination$work/here/usr" 2>&1)"
     check 'the same files' "$(files "$work/here/destination$work/here/usr" | diff - <(files "$root"))"
+}
+
+# CMake accepts the library for a project of this size of pointers, or of none, and not for other sizes.
+sizes_of_pointers() {
+    local size found
+    cat >"$work/pointers.cmake" <<'END'
+set(PACKAGE_FIND_VERSION 1.0)
+set(PACKAGE_FIND_VERSION_MAJOR 1)
+include("${PREFIX}/lib/cmake/nanorand/nanorand-config-version.cmake")
+message(STATUS "compatible ${PACKAGE_VERSION_COMPATIBLE}, unsuitable ${PACKAGE_VERSION_UNSUITABLE}")
+END
+    for size in '' 8 4 16; do
+        found=$(cmake "-DCMAKE_SIZEOF_VOID_P=$size" "-DPREFIX=$root" -P "$work/pointers.cmake" 2>&1)
+        expect "CMake: pointers of '$size' bytes" \
+            "-- compatible TRUE, unsuitable $([ "${size:-8}" -eq 8 ] || echo TRUE)" "$found"
+    done
 }
 
 # Prints a line for each version that follows: the version, whether find_package of CMake accepts the library below the
