@@ -175,11 +175,15 @@ def check(module):
 
 
 def platform_of(module):
-    """The platform of a wheel's tag: manylinux, if the module needs no symbol of a glibc newer than OLDEST_LIBC."""
+    """The platform of a wheel's tag: manylinux, if the module needs a glibc, and none newer than OLDEST_LIBC.
+
+    A module without symbols of glibc is linked with another C library, such as musl, for which no manylinux is.
+    """
     own = re.sub(r"\W", "_", sysconfig.get_platform())
-    versions = [re.search(r"@+GLIBC_([\d.]+)$", symbol) for symbol in symbols(module, "--undefined-only")]
-    newest = max((tuple(map(int, found[1].split("."))) for found in versions if found), default=OLDEST_LIBC)
-    return "manylinux_2_17_x86_64" if own == "linux_x86_64" and newest <= OLDEST_LIBC else own
+    found = [re.search(r"@+GLIBC_([\d.]+)$", symbol) for symbol in symbols(module, "--undefined-only")]
+    versions = [tuple(map(int, one[1].split("."))) for one in found if one]
+    is_old = versions and max(versions) <= OLDEST_LIBC
+    return "manylinux_2_17_x86_64" if own == "linux_x86_64" and is_old else own
 
 
 def compiled(module):

@@ -207,7 +207,8 @@ class Tools(unittest.TestCase):
         manylinux = "manylinux_2_17_x86_64"
         cases = [
             ("linux-x86_64", ["memcpy@GLIBC_2.14", "PyLong_FromLong", "strlen@@GLIBC_2.2.5"], manylinux),
-            ("linux-x86_64", ["PyLong_FromLong"], manylinux),
+            ("linux-x86_64", ["PyLong_FromLong", "strlen"], "linux_x86_64"),
+            ("linux-x86_64", [], "linux_x86_64"),
             ("linux-x86_64", ["memcpy@GLIBC_2.17"], manylinux),
             ("linux-x86_64", ["memcpy@GLIBC_2.14", "exp@GLIBC_2.29"], "linux_x86_64"),
             ("linux-x86_64", ["x@GLIBC_3.0"], "linux_x86_64"),
