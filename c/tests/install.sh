@@ -204,6 +204,7 @@ programs_in_cpp() {
     check 'the static library by CMake' "$(readelf -d "$work/cmake/build/shuffle" | grep libnanorand)"
     linked_folders "$work/cmake"
     sizes_of_pointers
+    variables_by_cmake
     refuses_version "$work/cmake" 0.99
     refuses_version "$work/cmake" 1.99
     refuses_version "$work/cmake" 2
@@ -272,6 +273,24 @@ END
         expect "CMake: pointers of '$size' bytes" \
             "-- compatible TRUE, unsuitable $([ "${size:-8}" -eq 8 ] || echo TRUE)" "$found"
     done
+}
+
+# The package leaves a project no variables but those that find_package itself sets, whose names begin so.
+variables_by_cmake() {
+    mkdir "$work/variables"
+    cat >"$work/variables/CMakeLists.txt" <<'END'
+cmake_minimum_required(VERSION 3.13)
+project(variables LANGUAGES NONE)
+set(before "")
+get_cmake_property(before VARIABLES)
+find_package(nanorand 1.0 REQUIRED)
+get_cmake_property(after VARIABLES)
+list(REMOVE_ITEM after ${before})
+list(FILTER after EXCLUDE REGEX "^nanorand_(CONFIG|CONSIDERED_|DIR|FOUND|VERSION)")
+message(STATUS "left: ${after}")
+END
+    expect 'CMake: variables' '-- left: ' "$(cmake -S "$work/variables" -B "$work/variables/build" \
+        "-DCMAKE_PREFIX_PATH=$root" 2>&1 | grep 'left\|Error')"
 }
 
 # Prints a line for each version that follows: the version, whether find_package of CMake accepts the library below the
