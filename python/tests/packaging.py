@@ -228,6 +228,11 @@ class Tools(unittest.TestCase):
         [call] = self.linked(sorted)
         self.assertIn(f"-ffile-prefix-map={backend.TOP}=.", call[0])
 
+    def test_the_module_is_optimized(self):
+        [[words, _]] = self.linked(sorted)
+        self.assertEqual([word for word in words if word.startswith("-O")], ["-O2"])
+        self.assertIn("-DNDEBUG", words)
+
 
 class Interpreters(unittest.TestCase):
     def refused(self, **attributes):

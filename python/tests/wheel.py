@@ -6,8 +6,10 @@ import email
 import hashlib
 import os
 import re
+import subprocess
 import sys
 import sysconfig
+import tempfile
 import unittest
 import zipfile
 from pathlib import Path
@@ -71,6 +73,14 @@ class Wheel(unittest.TestCase):
     def test_module_names_no_source(self):
         for word in (b"numbers.c", b"call_range", os.fsencode(ROOT)):
             self.assertNotIn(word, self.files[NATIVE])
+
+    def test_addresses_are_found_when_the_module_is_loaded(self):
+        """So nobody can change later which functions it calls."""
+        with tempfile.NamedTemporaryFile() as module:
+            module.write(self.files[NATIVE])
+            module.flush()
+            shown = subprocess.run(["readelf", "-d", module.name], check=True, capture_output=True, encoding="utf-8")
+        self.assertRegex(shown.stdout, r"\(FLAGS\) .*\bBIND_NOW\b")
 
 
 if __name__ == "__main__":
