@@ -37,31 +37,45 @@ void check(const char* generator, const char* name, bool holds)
     }
 }
 
-// Whether the call throws an exception of this type, and nothing else.
+// The text of the exception of this type that the call throws. Empty if it throws another one or none.
 template <typename Exception, typename Call>
-bool throws(Call call)
+std::string text_of(Call call)
 {
     try {
         call();
     } catch (const Exception& exception) {
-        return std::strlen(exception.what()) > 0;
+        return exception.what();
     } catch (...) {
     }
-    return false;
+    return "";
+}
+
+// Whether the call throws an exception of this type. Its text is that of the standard library, so any will do.
+template <typename Exception, typename Call>
+bool throws(Call call)
+{
+    return !text_of<Exception>(call).empty();
+}
+
+// Whether the call throws an exception of this type with this text.
+template <typename Exception, typename Call>
+bool throws(const char* text, Call call)
+{
+    return text_of<Exception>(call) == text;
 }
 
 // Whether the call throws `empty_range` with this text.
 template <typename Call>
 bool is_empty(const char* text, Call call)
 {
-    try {
-        call();
-    } catch (const nanorand::empty_range& exception) {
-        return std::strcmp(exception.what(), text) == 0;
-    } catch (...) {
-    }
-    return false;
+    return throws<nanorand::empty_range>(text, call);
 }
+
+constexpr const char* turned_around = "nanorand: range: the first number is greater than the last";
+constexpr const char* not_positive = "nanorand: below: the number is not positive";
+constexpr const char* too_many = "nanorand: sample: more numbers are wanted than the population has";
+constexpr const char* rejected = "nanorand: 128 words in a row were rejected";
+constexpr const char* past = "nanorand: the part ends past the period";
 
 // The C functions of a generator, and its class.
 #define GENERATOR(class_name, name) \
@@ -109,14 +123,29 @@ void types()
     static_assert(std::is_trivially_copyable_v<rng> && sizeof(rng) == sizeof(typename C::state));
     static_assert(!std::is_default_constructible_v<rng>);
     static_assert(std::is_constructible_v<rng, std::uint64_t> && !std::is_convertible_v<std::uint64_t, rng>);
-    static_assert(noexcept(std::declval<rng&>()()) && noexcept(std::declval<rng&>().f64()));
-    static_assert(noexcept(std::declval<rng&>().try_range(1, 6)) && noexcept(rng(1) == rng(1)));
-    static_assert(!noexcept(std::declval<rng&>().range(1, 6)) && !noexcept(std::declval<rng&>().below(6)));
     static_assert(std::is_same_v<decltype(std::declval<rng&>().state()), typename C::state&>);
     static_assert(std::is_same_v<decltype(std::declval<const rng&>().state()), const typename C::state&>);
 #if __cplusplus >= 202002L
     static_assert(std::uniform_random_bit_generator<rng>);
 #endif
+}
+
+// Which members throw nothing, whatever happens. Those that some generators lack are in the functions below.
+template <typename C>
+void what_throws_nothing()
+{
+    using rng = typename C::rng;
+    using state = typename C::state;
+    static_assert(std::is_nothrow_constructible_v<rng, std::uint64_t>);
+    static_assert(noexcept(rng::from_state(std::declval<const state&>())));
+    static_assert(noexcept(std::declval<rng&>().state()) && noexcept(std::declval<const rng&>().state()));
+    static_assert(noexcept(rng::min()) && noexcept(rng::max()));
+    static_assert(noexcept(std::declval<rng&>()()) && noexcept(std::declval<rng&>().f64()));
+    static_assert(noexcept(std::declval<rng&>().fill(nullptr, 0)));
+    static_assert(noexcept(std::declval<rng&>().fill(std::declval<std::array<char, 3>&>())));
+    static_assert(noexcept(std::declval<rng&>().try_range(1, 6)) && noexcept(std::declval<rng&>().discard(1)));
+    static_assert(noexcept(rng(1) == rng(1)) && noexcept(rng(1) != rng(1)));
+    static_assert(!noexcept(std::declval<rng&>().range(1, 6)) && !noexcept(std::declval<rng&>().below(6)));
 }
 
 // The numbers of each type are those of the function of C that the header names.
@@ -196,12 +225,11 @@ void bounds()
         wanted += other.below(std::uint64_t{INT64_MAX}) + other.below(UINT64_MAX);
     }
     check(C::text, "bounds of all types", sum == wanted && rng == other);
-    const char* text = "nanorand: below: the number is not positive";
-    check(C::text, "below 0", is_empty(text, [&] { (void)rng.below(0); }));
-    check(C::text, "below 0 of size_t", is_empty(text, [&] { (void)rng.below(std::size_t{0}); }));
-    check(C::text, "below -5", is_empty(text, [&] { (void)rng.below(-5); }));
-    check(C::text, "below -1 of char", is_empty(text, [&] { (void)rng.below(static_cast<signed char>(-1)); }));
-    check(C::text, "below the least", is_empty(text, [&] { (void)rng.below(INT64_MIN); }));
+    check(C::text, "below 0", is_empty(not_positive, [&] { (void)rng.below(0); }));
+    check(C::text, "below 0 of size_t", is_empty(not_positive, [&] { (void)rng.below(std::size_t{0}); }));
+    check(C::text, "below -5", is_empty(not_positive, [&] { (void)rng.below(-5); }));
+    check(C::text, "below -1 of char", is_empty(not_positive, [&] { (void)rng.below(static_cast<signed char>(-1)); }));
+    check(C::text, "below the least", is_empty(not_positive, [&] { (void)rng.below(INT64_MIN); }));
     check(C::text, "none of these drew", rng == other && has_state(rng, other.state()));
 }
 
@@ -369,20 +397,17 @@ void errors()
 {
     typename C::rng rng(42);
     const auto before = rng;
-    using nanorand::empty_range;
     std::vector<int> none;
-    check(C::text, "an empty range", throws<empty_range>([&] { (void)rng.range(2, 1); }));
-    check(C::text, "an empty range of unsigned", throws<empty_range>([&] { (void)rng.range(2u, 1u); }));
-    check(C::text, "an empty range of size_t", throws<empty_range>([&] { (void)rng.range(SIZE_MAX, SIZE_MAX - 1); }));
-    check(C::text, "an empty range of short", throws<empty_range>([&] { (void)rng.template range<short>(1, -1); }));
+    check(C::text, "an empty range", is_empty(turned_around, [&] { (void)rng.range(2, 1); }));
+    check(C::text, "an empty range of unsigned", is_empty(turned_around, [&] { (void)rng.range(2u, 1u); }));
+    check(C::text, "an empty range of size_t",
+          is_empty(turned_around, [&] { (void)rng.range(SIZE_MAX, SIZE_MAX - 1); }));
+    check(C::text, "an empty range of short", is_empty(turned_around, [&] { (void)rng.template range<short>(1, -1); }));
     check(C::text, "no number to try", !rng.try_range(2, 1) && !rng.try_range(2u, 1u) && !rng.try_range(2ul, 1ul));
-    check(C::text, "its base", throws<std::invalid_argument>([&] { (void)rng.below(0); }));
-    check(C::text, "an empty range's text",
-          is_empty("nanorand: range: the first number is greater than the last", [&] { (void)rng.range(2, 1); }));
+    check(C::text, "its base", throws<std::invalid_argument>(not_positive, [&] { (void)rng.below(0); }));
     check(C::text, "no item", is_empty("nanorand: choose: the container is empty", [&] { (void)rng.choose(none); }));
-    check(C::text, "a sample too large", is_empty("nanorand: sample: more numbers are wanted than the population has",
-                                                  [&] { (void)rng.sample(2, 3); }));
-    check(C::text, "the largest sample", throws<empty_range>([&] { (void)rng.sample(SIZE_MAX - 1, SIZE_MAX); }));
+    check(C::text, "a sample too large", is_empty(too_many, [&] { (void)rng.sample(2, 3); }));
+    check(C::text, "the largest sample", is_empty(too_many, [&] { (void)rng.sample(SIZE_MAX - 1, SIZE_MAX); }));
     check(C::text, "no memory", throws<std::length_error>([&] { (void)rng.sample(SIZE_MAX, SIZE_MAX); }));
     check(C::text, "nothing was drawn", rng == before && has_state(rng, before.state()));
 }
@@ -472,6 +497,7 @@ template <typename C>
 void all()
 {
     types<C>();
+    what_throws_nothing<C>();
     numbers<C>();
     bounds<C>();
     ranges<C>();
@@ -506,14 +532,18 @@ void parts(Call call)
         }
     }
     check(C::text, "parts", holds && root == typename C::rng(42));
-    check(C::text, "past the period", throws<std::out_of_range>([&] { (void)root.part(UINT64_MAX, UINT64_MAX); }));
-    check(C::text, "its type", throws<nanorand::past_period>([&] { (void)root.part(UINT64_MAX, UINT64_MAX); }));
+    const auto last = [&] { (void)root.part(UINT64_MAX, UINT64_MAX); };
+    check(C::text, "past the period", throws<std::out_of_range>(past, last));
+    check(C::text, "its type", throws<nanorand::past_period>(past, last));
 }
 
 void seeds_and_distances()
 {
     using nanorand::Pcg64;
     using nanorand::WyRand;
+    static_assert(noexcept(WyRand::from_seed(5)) && noexcept(WyRand(1).distance(WyRand(2))));
+    static_assert(noexcept(Pcg64::from_seed(5, 1)) && noexcept(Pcg64(1).distance(Pcg64(2))));
+    static_assert(noexcept(std::declval<Pcg64&>().discard({1, 1})));
     check("WyRand", "from_seed", WyRand::from_seed(5).state().seed == 5 && WyRand::from_seed(5) != WyRand(5));
     const auto pcg64 = Pcg64::from_seed(5, 1);
     check("Pcg64", "from_seed", pcg64.state().low == 5 && pcg64.state().high == 1);
@@ -536,6 +566,7 @@ void seeds_and_distances()
 template <typename C, typename Call>
 void blocks(Call call)
 {
+    static_assert(noexcept(std::declval<typename C::rng&>().block()));
     typename C::rng rng(42);
     auto state = rng.state();
     std::array<std::uint8_t, 64> wanted{};
@@ -550,6 +581,7 @@ void keys(Call call)
 {
     std::array<std::uint8_t, 32> key{};
     std::array<std::uint8_t, 8> nonce{};
+    static_assert(noexcept(C::rng::from_key(key, nonce)) && noexcept(C::rng::from_key(key)));
     const auto zeros = nonce;
     std::iota(key.begin(), key.end(), std::uint8_t{9});
     std::iota(nonce.begin(), nonce.end(), std::uint8_t{77});
@@ -725,41 +757,45 @@ void exhaustion()
     using nanorand::exhausted;
     Rejecting rng(0);
     std::vector<int> items{1, 2, 3, 4, 5};
-    check(name, "range", throws<exhausted>([&] { (void)rng.range(1, 6); }));
-    check(name, "its base", throws<std::runtime_error>([&] { (void)rng.range(1u, 6u); }));
-    check(name, "range of size_t", throws<exhausted>([&] { (void)rng.range<std::size_t>(1, 6); }));
+    check(name, "range", throws<exhausted>(rejected, [&] { (void)rng.range(1, 6); }));
+    check(name, "its base", throws<std::runtime_error>(rejected, [&] { (void)rng.range(1u, 6u); }));
+    check(name, "range of size_t", throws<exhausted>(rejected, [&] { (void)rng.range<std::size_t>(1, 6); }));
     check(name, "try_range", !rng.try_range(1, 6) && !rng.try_range(1u, 6u) && !rng.try_range(1ul, 6ul));
-    check(name, "below", throws<exhausted>([&] { (void)rng.below(6); }));
-    check(name, "choose", throws<exhausted>([&] { (void)rng.choose(items); }));
-    check(name, "sample", throws<exhausted>([&] { (void)rng.sample(6, 2); }));
-    check(name, "shuffle", throws<exhausted>([&] { rng.shuffle(items); }));
+    check(name, "below", throws<exhausted>(rejected, [&] { (void)rng.below(6); }));
+    check(name, "choose", throws<exhausted>(rejected, [&] { (void)rng.choose(items); }));
+    check(name, "sample", throws<exhausted>(rejected, [&] { (void)rng.sample(6, 2); }));
+    check(name, "shuffle", throws<exhausted>(rejected, [&] { rng.shuffle(items); }));
     check(name, "no swap", items == std::vector<int>{1, 2, 3, 4, 5});
     rng = Rejecting(2);
-    check(name, "shuffle after two swaps", throws<exhausted>([&] { rng.shuffle(items); }));
+    check(name, "shuffle after two swaps", throws<exhausted>(rejected, [&] { rng.shuffle(items); }));
     check(name, "two swaps stay", items == std::vector<int>{5, 1, 3, 4, 2} && rng == Rejecting(0));
-    check(name, "an unknown status", throws<std::logic_error>([&] { (void)rng.part(4, 0); }));
-    check(name, "a part", throws<nanorand::past_period>([&] { (void)rng.part(3, 0); }));
+    check(name, "an unknown status",
+          throws<std::logic_error>("nanorand: an unknown status", [&] { (void)rng.part(4, 0); }));
+    check(name, "a part", throws<nanorand::past_period>(past, [&] { (void)rng.part(3, 0); }));
     std::vector<Fragile> fragile{{1}, {2}, {3}};
     Fragile::swaps = 1;
     rng = Rejecting(9);
-    check(name, "a swap that throws", throws<std::domain_error>([&] { rng.shuffle(fragile); }));
+    check(name, "a swap that throws", throws<std::domain_error>("no swap", [&] { rng.shuffle(fragile); }));
     check(name, "the swaps before it", fragile[0].number == 3 && fragile[1].number == 2 && fragile[2].number == 1);
 }
 
+// Whether the call throws the error of lots with this status and this text.
 template <typename Call>
-nanorand_lots_status status_of(Call call)
+bool is_error(nanorand_lots_status status, const char* text, Call call)
 {
     try {
         call();
     } catch (const nanorand::lots::error& error) {
-        return std::strlen(error.what()) > 0 ? error.status() : NANORAND_LOTS_OK;
+        return error.status() == status && std::strcmp(error.what(), text) == 0;
+    } catch (...) {
     }
-    return NANORAND_LOTS_OK;
+    return false;
 }
 
 void lots()
 {
     namespace lots = nanorand::lots;
+    static_assert(noexcept(lots::digest({})) && noexcept(std::declval<const lots::error&>().status()));
     const std::string seed = "4 1 6 3 3 2 5 6 1 4 2 6 5 3 1 1 6 2 4 5";
     std::array<std::size_t, 12> places{};
     const auto* bytes = reinterpret_cast<const std::uint8_t*>(seed.data());
@@ -774,16 +810,16 @@ void lots()
     check("lots", "digest", lots::digest(seed) == digest && lots::digest("abc")[0] == 0xba);
     check("lots", "the digest of nothing", lots::digest({})[0] == 0xe3);
     check("lots", "count", lots::count("Ada\nJun\n") == 2 && lots::count("Ada\nJun") == 2 && lots::count("") == 0);
-    check("lots", "an empty line", status_of([] { (void)lots::count("Ada\n\nJun\n"); }) == NANORAND_LOTS_EMPTY_LINE);
-    check("lots", "no seed", status_of([] { (void)lots::draw("", 3, 1); }) == NANORAND_LOTS_BAD_SEED);
-    check("lots", "no text", status_of([] { (void)lots::draw("\xff", 3, 1); }) == NANORAND_LOTS_BAD_SEED);
+    const char* empty_line = "nanorand: line 2 of the list is empty";
+    check("lots", "an empty line",
+          is_error(NANORAND_LOTS_EMPTY_LINE, empty_line, [] { (void)lots::count("Ada\n\nJun\n"); }));
+    check("lots", "its base", throws<std::runtime_error>(empty_line, [] { (void)lots::count("Ada\n\nJun\n"); }));
+    const char* bad_seed = "nanorand: the seed is empty or not valid UTF-8";
+    check("lots", "no seed", is_error(NANORAND_LOTS_BAD_SEED, bad_seed, [] { (void)lots::draw("", 3, 1); }));
+    check("lots", "no text", is_error(NANORAND_LOTS_BAD_SEED, bad_seed, [] { (void)lots::draw("\xff", 3, 1); }));
     check("lots", "no memory", throws<std::length_error>([] { (void)lots::draw("s", SIZE_MAX, 1); }));
-    check("lots", "too few", status_of([] { (void)lots::draw("s", 3, 4); }) == NANORAND_LOTS_TOO_FEW);
-    try {
-        (void)lots::count("Ada\n\nJun\n");
-    } catch (const std::runtime_error& error) {
-        check("lots", "the line's number", std::strstr(error.what(), "line 2 ") != nullptr);
-    }
+    check("lots", "too few", is_error(NANORAND_LOTS_TOO_FEW, "nanorand: more places are wanted than there are",
+                                      [] { (void)lots::draw("s", 3, 4); }));
 }
 
 } // namespace
