@@ -154,6 +154,7 @@ classes() {
     prints "$1 c++17" c/examples/shuffle.cpp c/examples/shuffle.out
     prints "$1 c++17" c/examples/threads.cpp c/examples/threads.out -pthread
     tests_of "$1 c++17" c/tests/cpp.cpp "${flags[@]}" "${sanitized[@]}"
+    tests_of "$1 c++17" c/tests/lengths.cpp "${flags[@]}" "${sanitized[@]}"
     tests_of "$1 c++20" c/tests/cpp.cpp "${flags[@]}"
     prints "$1 c++2b" c/examples/shuffle.cpp c/examples/shuffle.out
     ! asked_for cargo || header_of_classes "$1 c++17"
