@@ -4,10 +4,10 @@
 No compiler sees a declaration together with the function, and the linker compares only names. The script also compares
 the exports of the library that cargo builds, the attributes for null pointers and statuses in the header and what it
 says of null pointers, the crates of the kit that the README names as trusted and those of crates.txt, the results
-in the header of C++ that have to be read, the structs that the exports take or return, the version and the repository's
-address that each part names, the headings of the changelogs, and the C functions and statuses that documents name. It
-finds a generator of the Rust crate that lacks what the files of layer/ have for all of them. The last line is N passed,
-M failed.
+in the header of C++ that have to be read, the standard headers that it includes, the structs that the exports take or
+return, the version and the repository's address that each part names, the copies of the license, the headings of the
+changelogs, and the C functions and statuses that documents name. It finds a generator of the Rust crate that lacks what
+the files of layer/ have for all of them. The last line is N passed, M failed.
 """
 
 import re
@@ -44,6 +44,25 @@ C_STRUCTS = {
 STRUCTS = sorted(C_STRUCTS.values())
 # The functions of C++ whose result need not be read: the call that all generators of <random> have.
 MAY_BE_UNREAD = {"operator()"}
+# The headers of the standard library, and the names of each that the header of C++ uses. A compiler does not miss a
+# header that another one includes.
+STANDARD = {
+    "algorithm": "iter_swap min",
+    "array": "array",
+    "cstddef": "byte size_t",
+    "cstdint": "int64_t uint32_t uint64_t uint8_t",
+    "cstring": "memcmp",
+    "iterator": "begin data end iterator_traits next size",
+    "limits": "numeric_limits",
+    "optional": "nullopt optional",
+    "stdexcept": "invalid_argument logic_error out_of_range runtime_error",
+    "string": "string to_string",
+    "string_view": "string_view",
+    "type_traits": "is_arithmetic_v is_const_v is_floating_point_v is_integral_v is_same_v is_signed_v remove_cv_t "
+                   "remove_pointer_t remove_reference_t void_t",
+    "utility": "declval make_pair",
+    "vector": "vector",
+}
 # Where the library's version is written, as text or as the number that is exported.
 VERSIONS = {
     "c/include/nanorand.h": r"^#define NANORAND_VERSION (\d+)$",
@@ -302,6 +321,17 @@ def unread_problems(path):
         yield [] if is_read else [f"{path}: {name} returns a value without [[nodiscard]]"]
 
 
+def include_problems(path):
+    """The header of C++ includes the header of each standard name that it uses, and no others."""
+    text = without_comments(read(path))
+    included = set(re.findall(r"^#include <(\w+)>$", text, re.M))
+    headers = {name: header for header, names in STANDARD.items() for name in names.split()}
+    used = {name: headers.get(name) for name in re.findall(r"\bstd::(\w+)", text)}
+    for name, header in sorted(used.items()):
+        yield [] if header in included else [f"{path}: std::{name} is used, and its header <{header}> is not included"]
+    yield [f"{path}: <{header}> is included and not used" for header in sorted(included - set(used.values()))]
+
+
 def c_structs(path):
     text = without_comments(read(path))
     found = re.findall(r"^typedef struct \w* ?\{(.*?)\} (\w+);", text, re.S | re.M)
@@ -379,6 +409,15 @@ def address_problems():
     found = {path: re.findall(pattern, read(path), re.M) for path, pattern in ADDRESSES.items()}
     same = len({*map(tuple, found.values())}) == 1 and all(len(addresses) == 1 for addresses in found.values())
     return [[] if same else [f"the repository's address is {found}"]]
+
+
+def license_problems():
+    """Each package of Rust is packed with its own copy of the license."""
+    copies = sorted((ROOT / "rust").glob("*/LICENSE"))
+    yield [] if len(copies) > 5 else [f"rust/: only {len(copies)} packages have a LICENSE"]
+    for path in copies:
+        same = path.read_bytes() == (ROOT / "LICENSE").read_bytes()
+        yield [] if same else [f"{path.relative_to(ROOT)}: it is not the LICENSE of the repository"]
 
 
 def changelog_problems():
@@ -468,6 +507,7 @@ def main():
     cases += null_problems(header)
     cases += trusted_problems()
     cases += unread_problems("c/include/nanorand.hpp")
+    cases += include_problems("c/include/nanorand.hpp")
     cases += problems(BY_CARGO, exports_by_cargo(), in_rust, comparable)
     cases += problems("bench/kit/src/calls.rs", rust_declarations("bench/kit/src/calls.rs"), bench, types)
     # The structs of `nanorand_calls`, and `WyRand` of `nanorand`.
@@ -477,6 +517,7 @@ def main():
     cases += struct_problems(header, c_structs(header), proved)
     cases += version_problems()
     cases += address_problems()
+    cases += license_problems()
     cases += changelog_problems()
     cases += name_problems(header)
     cases += size_problems(header)
