@@ -9,8 +9,9 @@
 # The header must declare the exports and the archives' symbols. With four compilers, and warnings as errors, the header
 # compiles alone and warns of mistakes, and structs have the declared layout in memory. The table of known answers, the
 # edge cases, the classes of C++ and the examples are compiled once and linked with both libraries. With further
-# standards the table and the edge cases only have to compile. Then come two releases in one program, what c/install
-# installs, the crate of the exports, and a check that the tests run all its code. The last line is N passed, M failed.
+# standards the table and the edge cases only have to compile, and so does the benchmark. Then come two releases in one
+# program, what c/install installs, the crate of the exports, and a check that the tests run all its code. The last line
+# is N passed, M failed.
 # shellcheck source=tests/lib.sh
 source "$(dirname "${BASH_SOURCE[0]}")/lib.sh"
 # The static library that each of cargo and kit built.
@@ -344,6 +345,16 @@ other_compilers() {
     check 'no attribute' "$("${clang[@]}" --target=x86_64 -U__GNUC__ -E 2>&1 | grep -m 1 'nonnull\|warn_unused')"
 }
 
+# The program that measures the calls compiles, also with what it calls of libsodium, if that is there.
+benchmark() {
+    check 'bench/c/bench.c' "$(compile 'cc c11' -fsyntax-only bench/c/bench.c || said)"
+    if [ -e /usr/include/sodium.h ]; then
+        check 'bench/c/bench.c with libsodium' "$(compile 'cc c11' -fsyntax-only -DSODIUM bench/c/bench.c || said)"
+    else
+        skip 'bench/c/bench.c with libsodium' 'there is no /usr/include/sodium.h'
+    fi
+}
+
 # Links both releases completely into one program, in the order of these archives. The program has the exports of both,
 # and no export of one has the address of an export of the other.
 both_releases() {
@@ -412,6 +423,7 @@ expect 'the version of the classes' \
     "$(sed -n 's/^#define nanorand_version nanorand_\(v[0-9]*\)_version$/\1/p' c/include/nanorand.h)" \
     "$(sed -n 's/^inline namespace \(v[0-9]*\) {$/\1/p' c/include/nanorand.hpp)"
 if available cc gcc; then
+    ! asked_for cargo || benchmark
     two_releases
 fi
 if [ -n "${archives[cargo]-}" ]; then
