@@ -3,8 +3,8 @@
 #
 # It tests the tools that compare their sources with the proved ones; the workspace, the library's build.rs and the packed
 # packages, in a copy without this repository's other files and without the kit; the adapter for rand_core; the drop-in
-# replacement for nanorand 0.7.0; and using and installing the packages from a clone. The workspace's tests have to run
-# all its code: tools/uncovered.py checks that with Debian's LLVM tools.
+# replacement for nanorand 0.7.0; whether bench/quality compiles; and using and installing the packages from a clone.
+# The workspace's tests have to run all its code: tools/uncovered.py checks that with Debian's LLVM tools.
 # shellcheck source=tests/lib.sh
 source "$(dirname "${BASH_SOURCE[0]}")/lib.sh"
 
@@ -86,6 +86,16 @@ adapter_from_a_clone() {
         (cd "$program" && bash -e commands && cargo run --quiet)
 }
 
+# The program that writes the streams for other programs' tests compiles. It needs Rust 1.85.
+benchmark() {
+    if [ "$(rustc --version | sed -nE 's/^rustc 1\.([0-9]+)\..*/\1/p')" -ge 85 ]; then
+        step cargo check --quiet --offline --locked --manifest-path bench/quality/Cargo.toml \
+            --target-dir "$work/quality"
+    else
+        skip 'bench/quality' 'rustc is older than 1.85'
+    fi
+}
+
 # A program uses the crate from a clone, as a user does from the repository's address.
 added_from_a_clone() {
     cargo new --quiet --vcs none "$work/program" &&
@@ -132,6 +142,7 @@ else
     skip 'the adapter for rand_core' 'that crate is not there'
 fi
 part tests/drop_in.sh
+benchmark
 git clone --quiet . "$work/clone"
 export CARGO_HOME=$work/cargo
 step added_from_a_clone
