@@ -19,6 +19,12 @@ compared_with_itself() {
     git grep --untracked -nP '\.(?:assertEqual|same)\((?:[^(),]+, )?([^(),]+), \1[,)]' -- '*.py'
 }
 
+# The scripts that go to their own folder and do not unset CDPATH first, which may lead them elsewhere.
+misled_by_cdpath() {
+    git grep --untracked -lE 'cd "\$\(dirname ' -- ':!*.md' ':!web' | xargs git grep --untracked -L '^unset CDPATH' --
+}
+
+check 'CDPATH' "$(misled_by_cdpath)"
 check 'comparisons of a value with itself' "$(compared_with_itself)"
 if available flake8 flake8; then
     step flake8
