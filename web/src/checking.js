@@ -42,7 +42,7 @@ export async function checkNow() {
       fieldOf("list").focus();
     }
   } catch (error) {
-    if (turn === session.turn) refuseHere(error);
+    if (!isLate()) refuseHere(error);
   } finally {
     enable("check");
   }

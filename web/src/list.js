@@ -43,6 +43,14 @@ export function lineAt(list, starts, place) {
   return list.subarray(starts[place], starts[place + 1] - 1);
 }
 
+/** The first bytes of a line, without a part of a character at their end. @param {Uint8Array} line */
+function beginningOf(line) {
+  let end = Math.min(line.length, LONGEST);
+  // In UTF-8 at most three bytes continue a character. They begin with the bits 10.
+  while (LONGEST - end < 3 && (line[end] & 0xc0) === 0x80) end -= 1;
+  return line.subarray(0, end);
+}
+
 /**
  * The first and last lines of a list, or all of a short one: the number of each, from 1, what the
  * page shows of it, and whether it goes on.
@@ -54,6 +62,6 @@ export function previewOf(list, entrants) {
     (index < ENDS ? index : entrants - Math.min(entrants, 2 * ENDS) + index));
   return places.map((place) => {
     const line = lineAt(list, starts, place);
-    return { number: place + 1, line: shown(line.subarray(0, LONGEST)), isCut: line.length > LONGEST };
+    return { number: place + 1, line: shown(beginningOf(line)), isCut: line.length > LONGEST };
   });
 }

@@ -80,7 +80,7 @@ function ofBytes(list, text) {
 /** A line of the list, named and shown, or none if the list is no text. */
 function lineShown(lines, number, isText, name = `Line ${number}`) {
   if (!isText) return [];
-  const letters = Array.from(lines[number - 1].slice(0, MOST_LETTERS));
+  const letters = Array.from(lines[number - 1].slice(0, 2 * MOST_LETTERS)).slice(0, MOST_LETTERS);
   return [{ name, line: { isText, parts: partsOf(letters) } }];
 }
 

@@ -106,6 +106,14 @@ def previews(counts: Counts, page: Page) -> None:
     page.facts()
     counts.same("a preview of odd lines", page.browser.run(PREVIEW),
                 ["1: AU+200B zero width spaceda", f"2: {'x' * 200} …", "3: U+0020 spaceB"])
+    for letter in ("\u00e9", "\u6f22", "\U0001f469"):
+        lines = [f"{'x' * before}{letter * 100}" for before in range(4)]
+        page.open_file("\n".join(lines).encode())
+        page.facts()
+        begins = [line.encode()[:200].decode(errors="ignore") for line in lines]
+        counts.same(f"a preview of long lines of {letter}", page.browser.run(PREVIEW),
+                    [f"{place + 1}: {line}{' …' if len(lines[place].encode()) > 200 else ''}"
+                     for place, line in enumerate(begins)])
     page.paste(SMALL)
     page.facts()
     counts.same("no preview of a pasted text", page.browser.run(SEEN, "preview"), False)
@@ -461,6 +469,11 @@ def in_warnings(counts: Counts, page: Page) -> None:
     page.facts()
     counts.same("a long line", page.browser.run(lines),
                 [f"Line 1: {'x' * 200}", "Line 2: BU+200B zero width spaceob"])
+    emoji = "\U0001f469"
+    page.open_file(f"x{emoji * 5000}\u200by\n{emoji * 5000}\u200by\n".encode())
+    page.facts()
+    counts.same("long lines of emoji", page.browser.run(lines),
+                [f"Line 1: x{emoji * 199}", f"Line 2: {emoji * 200}"])
 
 
 def in_view(counts: Counts, page: Page) -> None:

@@ -145,19 +145,21 @@ def refusals_of_older_fields(counts: Counts, page: Page) -> None:
     page.browser.run(SET)
     page.browser.run(failures.REFUSED)
     page.browser.run(failures.SET, "check", "no memory", {})
-    for button, text, count in (("draw", "a\n\n", "all"), ("draw", "a\n", "x"), ("check", "a\n\n", "all"),
-                                ("check", "a\n", "all")):
+    for button, text, count, field in (("draw", "a\n\n", "all", "seed"), ("draw", "a\n", "x", "seed"),
+                                       ("check", "a\n\n", "all", "seed"), ("check", "a\n", "all", "seed"),
+                                       ("check", "a\n", "all", "check-text"),
+                                       ("check", "a\n", "all", "check-announcement")):
         page.tab(button)
-        page.browser.run("""const [button, text, count] = arguments;
+        page.browser.run("""const [button, text, count, field] = arguments;
             put("list-text", text);
             put("count", count);
             document.getElementById(button).click();
             document.getElementById("open-file").focus();
-            put("seed", "later");""", button, text, count)
+            put(field, "later");""", button, text, count, field)
         idle(page)
         page.tab("draw")
         wanted = {"list": "Line 2 is empty. Each line of the list must have an entrant."} if text == "a\n\n" else {}
-        name = f"a {button} of {text!r} and {count}"
+        name = f"a {button} of {text!r} and {count}, before another {field}"
         counts.same(name, failures.errors(page), wanted)
         counts.same(f"{name}: the keyboard", page.browser.run("return document.activeElement.id;"), "open-file")
 
