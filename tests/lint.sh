@@ -21,7 +21,7 @@ compared_with_itself() {
 
 # The scripts that go to their own folder and do not unset CDPATH first, which may lead them elsewhere.
 misled_by_cdpath() {
-    git grep --untracked -lE 'cd "\$\(dirname ' -- ':!*.md' ':!web' | xargs git grep --untracked -L '^unset CDPATH' --
+    git grep --untracked -lE 'cd "\$\(dirname ' -- ':!*.md' | xargs git grep --untracked -L '^unset CDPATH' --
 }
 
 check 'CDPATH' "$(misled_by_cdpath)"

@@ -7,6 +7,7 @@
 # wasm32-unknown-unknown. The same sources and the same rustc produce the same bytes, in whichever folder they are.
 # Exits with status 3 if there is no such compiler.
 set -euo pipefail
+unset CDPATH # otherwise `cd` may go elsewhere
 into=$(realpath -m "$1")
 cd "$(dirname "$0")/.."
 target=wasm32-unknown-unknown
