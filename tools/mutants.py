@@ -14,9 +14,9 @@ changes a definition on which that law depends. A mutant is tried alone if it ch
 such as a loop with its invariant, or if it changes anything other than a body or a definition.
 
 A line for each group has its processor-seconds, and a line for each mutant has the clauses and goals that refused it.
-The last line is N passed, M failed; mutants that are not tried again do not count. If PROVED names a checkout in which rt ci has passed, its libraries are used;
-otherwise each unchanged crate is proved first. LANES is the number of crates that are tried side by side. LOGS names a
-folder for the output of the checks.
+The last line is N passed, M failed; mutants that are not tried again do not count. If PROVED names a checkout in which
+rt ci has passed, its libraries are used; otherwise each unchanged crate is proved first. LANES is the number of crates
+that are tried side by side. LOGS names a folder for the output of the checks.
 
 What passed is not tried again while everything that its check reads stays the same: the kit's logic, these scripts, the
 crate, and the libraries below it. A mutant that is itself named (CRATE/NAME) is tried nevertheless, and --all tries
@@ -322,7 +322,7 @@ def passed_before(kept, mutants):
 
 
 def try_crate(name, mutants):
-    """Tries the mutants of a crate that did not pass before. Returns those of them that passed and those that failed."""
+    """Tries the mutants of a crate that did not pass before. Returns those that passed and those that failed."""
     kept = Kept(ROOT / "crates" / name, PROVED, ANEW)
     before = passed_before(kept, mutants)
     left = [one for one in mutants if one not in before]
