@@ -1,10 +1,10 @@
 #!/usr/bin/env bash
 # Tests the Rust packages: tests/rust.sh. The last line is N passed, M failed.
 #
-# It tests the tools that compare their sources with the proved ones; the workspace, the library's build.rs and the packed
-# packages, in a copy without this repository's other files and without the kit; the adapter for rand_core; the drop-in
-# replacement for nanorand 0.7.0; and using and installing the packages from a clone. The workspace's tests have to run
-# all its code: tools/uncovered.py checks that with Debian's LLVM tools.
+# It tests the tools that compare their sources with the proved ones; their conditions for targets; the workspace, the
+# library's build.rs and the packed packages, in a copy without this repository's other files and without the kit; the
+# adapter for rand_core; the drop-in replacement for nanorand 0.7.0; and using and installing the packages from a clone.
+# The workspace's tests have to run all its code: tools/uncovered.py checks that with Debian's LLVM tools.
 # shellcheck source=tests/lib.sh
 source "$(dirname "${BASH_SOURCE[0]}")/lib.sh"
 
@@ -123,6 +123,7 @@ other_targets
 read -r command package < <(tools/uncovered.py --tools)
 [ -z "$package" ] || available "$command" "$package"
 copy_of_workspace "$work/copy"
+part tests/targets.py
 part env PATH="$(path_without_kit)" "$work/copy/tests/workspace.sh"
 part env PATH="$(path_without_kit)" "$work/copy/tests/build_script.sh"
 part env PATH="$(path_without_kit)" "$work/copy/tests/packed.sh"
