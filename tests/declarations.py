@@ -6,8 +6,8 @@ the exports of the library that cargo builds, the attributes for null pointers a
 says of null pointers, the crates of the kit that the README names as trusted and those of crates.txt, the results
 in the header of C++ that have to be read, the structs that the exports take or return, the version and the repository's
 address that each part names, the headings of the changelogs, and the C functions and statuses that documents name. It
-finds a generator of the Rust crate that lacks what the files of layer/ have for all of them. The last line is N passed,
-M failed.
+finds a generator of the Rust crate that lacks what the files of layer/ have for all of them, and keywords and
+categories of the Rust packages that crates.io would not take. The last line is N passed, M failed.
 """
 
 import re
@@ -93,6 +93,12 @@ CHANGELOGS = "CHANGELOG.md", "rust/nanorand-proved/CHANGELOG.md"
 CHANGELOG_TITLE, CHANGELOG_FIRST = "# Changelog", "## [Unreleased]"
 CHANGELOG_LATER = re.compile(r"## \[\d+\.\d+\.\d+\] - (\d{4}-\d\d-\d\d|not released)"
                              r"|### (Added|Changed|Deprecated|Removed|Fixed|Security)")
+# What crates.io takes in lists of at most five: keywords of this form, and of its categories those that packages use.
+MOST = 5
+FORMS = {
+    "keywords": r"[A-Za-z][A-Za-z0-9_-]{0,19}",
+    "categories": r"algorithms|command-line-interface|command-line-utilities|no-std",
+}
 # What the header says of null pointers: the attributes of the functions say the same to compilers.
 NULLS = ["No pointer may be null, except that of an array of length 0.",
          "For compilers: the numbers of the parameters that must not be null; a status that must not be ignored."]
@@ -381,6 +387,18 @@ def address_problems():
     return [[] if same else [f"the repository's address is {found}"]]
 
 
+def registry_problems():
+    """crates.io refuses a package with other keywords, and leaves out other categories."""
+    for path in sorted((ROOT / "rust").glob("*/Cargo.toml")):
+        text, where = path.read_text(encoding="utf-8"), path.relative_to(ROOT)
+        for name, form in FORMS.items():
+            found = re.findall(rf"^{name} = \[(.*)\]$", text, re.M)
+            if found or "\npublish = false\n" not in text:
+                words = ", ".join(found).split(", ")
+                good = len(words) <= MOST and all(re.fullmatch(f'"({form})"', word) for word in words)
+                yield [] if good and len(set(words)) == len(words) else [f"{where}: the {name} are {found}"]
+
+
 def changelog_problems():
     for path in CHANGELOGS:
         title, first, *later = re.findall(r"^#+ .*", read(path), re.M)
@@ -477,6 +495,7 @@ def main():
     cases += struct_problems(header, c_structs(header), proved)
     cases += version_problems()
     cases += address_problems()
+    cases += registry_problems()
     cases += changelog_problems()
     cases += name_problems(header)
     cases += size_problems(header)
