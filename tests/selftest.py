@@ -378,7 +378,7 @@ if grep -qxF -e "${0##*/} $*" "$BAD"; then
     exit 1
 fi
 case "$*" in *targets/program.rs) install -D /bin/true ../../target/targets/x86_64-unknown-linux-gnu/program ;; esac
-case "$*" in *--list*) cd rust/nanorand-proved && find src benches examples tests *.md LICENSE -type f ;; esac
+case "$*" in *--list*) cd rust/nanorand-proved && find src benches examples tests *.md *.rs LICENSE -type f ;; esac
 echo 'test result: ok. 3 passed; 0 failed'
 """
 

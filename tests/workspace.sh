@@ -204,11 +204,11 @@ copies_are_equal() {
     done
 }
 
-# The library's package has what its users need.
+# The library's package has what its users need, and every file that its code, benchmarks, examples and tests consist of.
 packs_what_it_should() {
     local file
     cargo package --offline --allow-dirty --quiet --list -p nanorand-proved >target/packed || return
-    (cd "$library" && ls LICENSE README.md CHANGELOG.md src/lib.rs benches/speed.rs examples/*.rs tests/*.*) |
+    (cd "$library" && find LICENSE README.md CHANGELOG.md build.rs src benches examples tests -type f) |
         while read -r file; do
             grep -qxF "$file" target/packed || { echo "the package lacks $file"; return 1; }
         done
