@@ -59,7 +59,7 @@ adapter() {
     local manifest=$work/copy/rust/nanorand-rand-core/Cargo.toml
     local words=("${debian[@]}" --manifest-path "$manifest")
     cargo_tests cargo test "${words[@]}"
-    step cargo check "${words[@]}"
+    step adapter_without_std "${words[@]}"
     step cargo run --quiet "${words[@]}" --example seeded
     step env RUSTDOCFLAGS='-D warnings' cargo doc "${words[@]}" --no-deps
     if cargo clippy --version >/dev/null 2>&1; then
@@ -72,6 +72,23 @@ adapter() {
     else
         skip 'the format of the adapter' 'there is no rustfmt'
     fi
+}
+
+# Links a library without std with the adapter, which these words of cargo build. If std were linked, its panic handler
+# would be a second one, which is an error. Warnings are failures.
+adapter_without_std() {
+    local folder=$work/without_std
+    cargo rustc "$@" --lib --target-dir "$folder" -- -D warnings &&
+        rustc --edition 2021 --crate-type staticlib -C panic=abort -o "$folder/adapter.a" \
+            -L "dependency=$folder/debug/deps" \
+            --extern "nanorand_proved_rand_core=$folder/debug/libnanorand_proved_rand_core.rlib" - <<'END'
+#![no_std]
+extern crate nanorand_proved_rand_core as _;
+#[panic_handler]
+fn panic(_: &core::panic::PanicInfo) -> ! {
+    loop {}
+}
+END
 }
 
 # A program takes the adapter from a clone by the commands of its README, and the README's example runs.
