@@ -7,7 +7,8 @@ says of null pointers, the crates of the kit that the README names as trusted an
 in the header of C++ that have to be read, the standard headers that it includes, the structs that the exports take or
 return, the version and the repository's address that each part names, the copies of the license, the headings of the
 changelogs, and the C functions and statuses that documents name. It finds a generator of the Rust crate that lacks what
-the files of layer/ have for all of them. The last line is N passed, M failed.
+the files of layer/ have for all of them, and keywords and categories of the Rust packages that crates.io would not
+take. The last line is N passed, M failed.
 """
 
 import re
@@ -112,6 +113,12 @@ CHANGELOGS = "CHANGELOG.md", "rust/nanorand-proved/CHANGELOG.md"
 CHANGELOG_TITLE, CHANGELOG_FIRST = "# Changelog", "## [Unreleased]"
 CHANGELOG_LATER = re.compile(r"## \[\d+\.\d+\.\d+\] - (\d{4}-\d\d-\d\d|not released)"
                              r"|### (Added|Changed|Deprecated|Removed|Fixed|Security)")
+# What crates.io takes in lists of at most five: keywords of this form, and of its categories those that packages use.
+MOST = 5
+FORMS = {
+    "keywords": r"[A-Za-z][A-Za-z0-9_-]{0,19}",
+    "categories": r"algorithms|command-line-interface|command-line-utilities|no-std",
+}
 # What the header says of null pointers: the attributes of the functions say the same to compilers.
 NULLS = ["No pointer may be null, except that of an array of length 0.",
          "For compilers: the numbers of the parameters that must not be null; a status that must not be ignored."]
@@ -420,6 +427,18 @@ def license_problems():
         yield [] if same else [f"{path.relative_to(ROOT)}: it is not the LICENSE of the repository"]
 
 
+def registry_problems():
+    """crates.io refuses a package with other keywords, and leaves out other categories."""
+    for path in sorted((ROOT / "rust").glob("*/Cargo.toml")):
+        text, where = path.read_text(encoding="utf-8"), path.relative_to(ROOT)
+        for name, form in FORMS.items():
+            found = re.findall(rf"^{name} = \[(.*)\]$", text, re.M)
+            if found or "\npublish = false\n" not in text:
+                words = ", ".join(found).split(", ")
+                good = len(words) <= MOST and all(re.fullmatch(f'"({form})"', word) for word in words)
+                yield [] if good and len(set(words)) == len(words) else [f"{where}: the {name} are {found}"]
+
+
 def changelog_problems():
     for path in CHANGELOGS:
         title, first, *later = re.findall(r"^#+ .*", read(path), re.M)
@@ -518,6 +537,7 @@ def main():
     cases += version_problems()
     cases += address_problems()
     cases += license_problems()
+    cases += registry_problems()
     cases += changelog_problems()
     cases += name_problems(header)
     cases += size_problems(header)

@@ -1,10 +1,11 @@
 #!/usr/bin/env bash
 # Tests the Rust packages: tests/rust.sh. The last line is N passed, M failed.
 #
-# It tests the tools that compare their sources with the proved ones; the workspace, the library's build.rs and the packed
-# packages, in a copy without this repository's other files and without the kit; the adapter for rand_core; the drop-in
-# replacement for nanorand 0.7.0; whether bench/quality compiles; and using and installing the packages from a clone.
-# The workspace's tests have to run all its code: tools/uncovered.py checks that with Debian's LLVM tools.
+# It tests the tools that compare their sources with the proved ones; their conditions for targets; the workspace, the
+# library's build.rs and the packed packages, in a copy without this repository's other files and without the kit; the
+# adapter for rand_core; the drop-in replacement for nanorand 0.7.0; whether bench/quality compiles; and using and
+# installing the packages from a clone. The workspace's tests have to run all its code: tools/uncovered.py checks that
+# with Debian's LLVM tools.
 # shellcheck source=tests/lib.sh
 source "$(dirname "${BASH_SOURCE[0]}")/lib.sh"
 
@@ -59,7 +60,7 @@ adapter() {
     local manifest=$work/copy/rust/nanorand-rand-core/Cargo.toml
     local words=("${debian[@]}" --manifest-path "$manifest")
     cargo_tests cargo test "${words[@]}"
-    step cargo check "${words[@]}"
+    step adapter_without_std "${words[@]}"
     step cargo run --quiet "${words[@]}" --example seeded
     step env RUSTDOCFLAGS='-D warnings' cargo doc "${words[@]}" --no-deps
     if cargo clippy --version >/dev/null 2>&1; then
@@ -72,6 +73,23 @@ adapter() {
     else
         skip 'the format of the adapter' 'there is no rustfmt'
     fi
+}
+
+# Links a library without std with the adapter, which these words of cargo build. If std were linked, its panic handler
+# would be a second one, which is an error. Warnings are failures.
+adapter_without_std() {
+    local folder=$work/without_std
+    cargo rustc "$@" --lib --target-dir "$folder" -- -D warnings &&
+        rustc --edition 2021 --crate-type staticlib -C panic=abort -o "$folder/adapter.a" \
+            -L "dependency=$folder/debug/deps" \
+            --extern "nanorand_proved_rand_core=$folder/debug/libnanorand_proved_rand_core.rlib" - <<'END'
+#![no_std]
+extern crate nanorand_proved_rand_core as _;
+#[panic_handler]
+fn panic(_: &core::panic::PanicInfo) -> ! {
+    loop {}
+}
+END
 }
 
 # A program takes the adapter from a clone by the commands of its README, and the README's example runs.
@@ -133,6 +151,7 @@ other_targets
 read -r command package < <(tools/uncovered.py --tools)
 [ -z "$package" ] || available "$command" "$package"
 copy_of_workspace "$work/copy"
+part tests/targets.py
 part env PATH="$(path_without_kit)" "$work/copy/tests/workspace.sh"
 part env PATH="$(path_without_kit)" "$work/copy/tests/build_script.sh"
 part env PATH="$(path_without_kit)" "$work/copy/tests/packed.sh"

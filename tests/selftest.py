@@ -27,8 +27,8 @@ ROOT = Path(__file__).resolve().parent.parent
 # Files and folders in tests/ that are not parts: the parts call or read them.
 NO_PARTS = {
     "lib.sh", "program.sh", "build.sh", "workspace.sh", "build_script.sh", "packed.sh", "targets.sh", "drop_in.sh",
-    "c_crate.sh", "second_opinion.py", "compare_records.py", "records.py", "nanorand-0.7.0.txt", "answers", "against_c",
-    "clients",
+    "targets.py", "c_crate.sh", "second_opinion.py", "compare_records.py", "records.py", "nanorand-0.7.0.txt", "answers",
+    "against_c", "clients",
 }
 
 # How a part may end: its last lines, its status, and the counts that the sum has to have for it.
@@ -98,6 +98,9 @@ CHANGES = [
     ("tests/declarations.py", "pyproject.toml", 'Repository = "', 'Repository = "https://'),
     ("tests/declarations.py", "rust/lots/LICENSE", "\n", "\n\n", "rust/lots/LICENSE: it is not the LICENSE"),
     ("tests/declarations.py", "LICENSE", "\n", "\n\n", "rust/lots/LICENSE: it is not the LICENSE"),
+    ("tests/declarations.py", "rust/lots/Cargo.toml", '"no_std"]', '"no_std", "rng"]', "rust/lots/Cargo.toml: the keywords"),
+    ("tests/declarations.py", "rust/draw/Cargo.toml", '"seeded"', '"seeded and repeatable"', "the keywords"),
+    ("tests/declarations.py", "rust/draw/Cargo.toml", "-utilities", "-tools", "rust/draw/Cargo.toml: the categories"),
     ("tests/declarations.py", "CHANGELOG.md", "## [1.", "## [2."),
     ("tests/declarations.py", "CHANGELOG.md", "## [Unreleased]\n", ""),
     ("tests/declarations.py", "rust/nanorand-proved/CHANGELOG.md", "### Added", "### New"),
@@ -381,7 +384,7 @@ if grep -qxF -e "${0##*/} $*" "$BAD"; then
     exit 1
 fi
 case "$*" in *targets/program.rs) install -D /bin/true ../../target/targets/x86_64-unknown-linux-gnu/program ;; esac
-case "$*" in *--list*) cd rust/nanorand-proved && find src benches examples tests *.md LICENSE -type f ;; esac
+case "$*" in *--list*) cd rust/nanorand-proved && find src benches examples tests *.md *.rs LICENSE -type f ;; esac
 echo 'test result: ok. 3 passed; 0 failed'
 """
 

@@ -50,27 +50,80 @@ has_a_page() {
     cmp "$library/LICENSE" "rust/$1/LICENSE" && grep -qF "cargo install --git URL $1" "rust/$1/README.md"
 }
 
+# What the compiler says of a function with these statements.
+said_of() {
+    rustc --edition 2021 --crate-type lib --emit metadata --out-dir target/hints - \
+        --extern nanorand_proved=target/debug/libnanorand_proved.rlib 2>&1 \
+        <<<"use nanorand_proved::*; pub fn f(rng: &mut WyRand) { $1 }"
+}
+
+# Mistakes, each after a `>`, and below it what the compiler has to hint at.
+hints() {
+    cat <<'END'
+> let _: &str = rng.generate();
+values of the type `&str` cannot be drawn
+for a type of your own, implement `RandomGen`
+for a collection, draw its items: `rng.generate_iter().take(n).collect()`
+for one of several values, call `rng.choose(&values)`
+> struct Card; let _: Card = rng.generate();
+for a type of your own, implement `RandomGen`
+> let _: Vec<u8> = rng.generate();
+for a collection, draw its items: `rng.generate_iter().take(n).collect()`
+> let _ = rng.range(String::new()..);
+`String` has no ranges
+for a type of your own, implement `RandomRange`
+for other types, draw a number and convert it; for a time, add a random `Duration`
+> #[derive(Clone)] struct Card; let _ = rng.range(Card..);
+for a type of your own, implement `RandomRange`
+> fn g<R: Rng>(_: R) {} g(ChaCha20Stream::seed_from_u64(1));
+`BufferedRng<ChaChaGroups<20>, 512>` is not a generator with blocks of 8 bytes
+`R: Rng` alone is `R: Rng<8>`; `R: AnyRng` takes any generator: call `rng.rng().range(1..=6)`
+> fn g<T>(rng: &mut dyn AnyRng) -> T { rng.generate() }
+values of the type `T` cannot be drawn from a `dyn AnyRng`
+for a type parameter, write the bound `T: AnyValue`
+for a type of your own, implement `RandomGen` for all generators
+for a collection, draw its items: `rng.generate_iter().take(n).collect()`
+> fn g<T: Clone>(rng: &mut dyn AnyRng, one: T) -> T { rng.range(one..) }
+a `dyn AnyRng` draws no numbers from ranges of the type `T`
+for a type parameter, write the bound `T: AnyRange`
+for a type of your own, implement `RandomRange` for all generators, and `Clone`
+> struct Own; fn g<R: AnyRng>(_: R) {} g(Own);
+an `Rng` of your own is lent by `rng.as_any()`, or implements `AnyRng` by its `fill_bytes`
+END
+}
+
 # The compiler hints at the right way where a program asks for what a type does not have.
 hints_at_mistakes() {
-    local hint code said missing=0
+    local line said missing=0
     cargo build --quiet --offline -p nanorand-proved
-    while IFS='|' read -r hint code; do
-        said=$(rustc --edition 2021 --crate-type lib --emit metadata --out-dir target/hints - \
-            --extern nanorand_proved=target/debug/libnanorand_proved.rlib 2>&1 \
-            <<<"use nanorand_proved::*; pub fn f(rng: &mut WyRand) { $code }")
-        grep -qF "$hint" <<<"$said" || { echo "no hint: $hint"; missing=1; }
-    done <<'END'
-values of the type `&str` cannot be drawn|let _: &str = rng.generate();
-for a type of your own, implement `RandomGen`|struct Card; let _: Card = rng.generate();
-draw its items: `rng.generate_iter().take(n).collect()`|let _: Vec<u8> = rng.generate();
-`String` has no ranges|let _ = rng.range(String::new()..);
-for a type of your own, implement `RandomRange`|#[derive(Clone)] struct Card; let _ = rng.range(Card..);
-`R: AnyRng` takes any generator: call `rng.rng()|fn g<R: Rng>(_: R) {} g(ChaCha20Stream::seed_from_u64(1));
-write the bound `T: AnyValue`|fn g<T>(rng: &mut dyn AnyRng) -> T { rng.generate() }
-write the bound `T: AnyRange`|fn g<T: Clone>(rng: &mut dyn AnyRng, one: T) -> T { rng.range(one..) }
-an `Rng` of your own is lent by `rng.as_any()`|struct Own; fn g<R: AnyRng>(_: R) {} g(Own);
-END
+    while read -r line; do
+        case $line in
+        '> '*) said=$(said_of "${line#> }" | sed -E 's/^(error\[E0277\]:| *= note:) //') ;;
+        *) grep -qxF "$line" <<<"$said" || { echo "no hint: $line"; missing=1; } ;;
+        esac
+    done < <(hints)
     return "$missing"
+}
+
+# Each message and note of the library is one of these hints.
+hints_are_all() {
+    local text
+    while read -r text; do
+        hints | grep -qxE "$text" || { echo "no mistake leads to: $text"; return 1; }
+    done < <(grep -rhoE '\b(message|note|label) = "[^"]+"' "$library/src" |
+        sed -E 's/^\w+ = "(.*)"$/\1/; s/[][().*+?|^$]/\\&/g; s/\{\w+\}/.+/g')
+}
+
+# The compiler recommends the type and the bound of the call, and not what the implementation for all types asks for.
+recommends_what_is_called() {
+    local hint code
+    while IFS='|' read -r hint code; do
+        grep -qF "$hint" <<<"$(said_of "$code")" || { echo "not recommended: $hint"; return 1; }
+    done <<'END'
+values of the type `(u8, Card)` cannot be drawn|struct Card; let _: (u8, Card) = rng.generate();
+<T: nanorand_proved::AnyValue>|fn g<T>(rng: &mut dyn AnyRng) -> T { rng.generate() }
+<T: Clone + nanorand_proved::AnyRange>|fn g<T: Clone>(rng: &mut dyn AnyRng, one: T) -> T { rng.range(one..) }
+END
 }
 
 # Links a program without std with the library without its feature std. If std were linked, its panic handler would be a
@@ -151,11 +204,11 @@ copies_are_equal() {
     done
 }
 
-# The library's package has what its users need.
+# The library's package has what its users need, and every file that its code, benchmarks, examples and tests consist of.
 packs_what_it_should() {
     local file
     cargo package --offline --allow-dirty --quiet --list -p nanorand-proved >target/packed || return
-    (cd "$library" && ls LICENSE README.md CHANGELOG.md src/lib.rs benches/speed.rs examples/*.rs tests/*.*) |
+    (cd "$library" && find LICENSE README.md CHANGELOG.md build.rs src benches examples tests -type f) |
         while read -r file; do
             grep -qxF "$file" target/packed || { echo "the package lacks $file"; return 1; }
         done
@@ -243,10 +296,17 @@ step library_without_std
 step lots_without_std
 step unsafe_as_the_readme_says
 step asks_for_what_it_uses
-if [ "$(rustc --version | sed -nE 's/^rustc 1\.([0-9]+)\..*/\1/p')" -ge 78 ]; then
+minor=$(rustc --version | sed -nE 's/^rustc 1\.([0-9]+)\..*/\1/p')
+step hints_are_all
+if [ "$minor" -ge 78 ]; then
     step hints_at_mistakes
 else
     echo 'skipped: hints at mistakes, which rustc has from 1.78 on'
+fi
+if [ "$minor" -ge 85 ]; then
+    step recommends_what_is_called
+else
+    echo 'skipped: what is recommended, which rustc has from 1.85 on'
 fi
 if is_version "$oldest" "$oldest_bin/rustc"; then
     by_the_oldest

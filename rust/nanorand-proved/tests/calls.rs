@@ -18,13 +18,14 @@ use nanorand_proved::values::range::draw_number;
 use nanorand_proved::values::word::draw_below;
 use nanorand_proved::values::{fill_with, pick_word};
 use nanorand_proved::{
-    BufferedRng, ChaCha, ChaCha12, ChaCha20, ChaCha8, ChaChaStream, Pcg64, RangeError, Rng,
-    SeedableRng, WyRand,
+    BufferedRng, ChaCha, ChaCha12, ChaCha20, ChaCha8, ChaChaStream, GenerateIter, Pcg64,
+    RangeError, Rng, SeedableRng, WyRand,
 };
 use std::fmt::Debug;
 use std::io::{self, Read};
 use std::ops::Bound::{Excluded, Included, Unbounded};
 use std::panic::{catch_unwind, AssertUnwindSafe};
+use std::rc::Rc;
 use std::sync::Mutex;
 
 /// Every way to write a range of a type, between two adjacent numbers and at both ends of the type.
@@ -529,6 +530,13 @@ fn generators_go_to_threads() {
     let mut rng = WyRand::new_seed(42);
     let there = std::thread::spawn(move || rng.next_u64()).join();
     assert_eq!(there.expect("no panic"), 12_558_987_674_375_533_620);
+}
+
+/// An iterator has no values yet, so those that cannot go to a thread do not keep it from going.
+#[test]
+fn iterators_go_to_threads() {
+    fn check<T: Send + Sync + Unpin + 'static>() {}
+    check::<GenerateIter<'static, Rc<u8>, WyRand, 8>>();
 }
 
 #[test]

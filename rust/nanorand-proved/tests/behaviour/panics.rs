@@ -82,8 +82,20 @@ fn panics<F: FnMut(&mut Constant) -> R, R>(text: &str, drawn: u64, mut call: F) 
     assert!(ended.is_err(), "{text}");
     let said = SAID.with(RefCell::take);
     let whole = said.ends_with(&format!("\n{text}")) || said.contains(&format!("'{text}',"));
-    assert!(whole && said.contains("panics.rs"), "{text}: {said}");
+    assert!(whole && said.contains(file!()), "{text}: {said}");
     assert_eq!(rng.drawn(), drawn, "{text}");
+}
+
+/// The same for a generator and for a `dyn AnyRng`, which has calls of its own.
+macro_rules! both_panic {
+    ($text:expr, $drawn:expr, |$rng:ident| $call:expr) => {
+        panics($text, $drawn, |$rng| $call);
+        panics($text, $drawn, |own| {
+            let mut lent = own.as_any();
+            let $rng: &mut dyn AnyRng = &mut lent;
+            $call
+        });
+    };
 }
 
 #[test]
@@ -127,47 +139,53 @@ fn empty_ranges_of_each_type() {
 #[test]
 fn mistakes() {
     let slice = "cannot choose from an empty slice";
-    panics(slice, 0, |rng| rng.choose_or_panic::<u8>(&[]).to_owned());
-    panics(slice, 0, |rng| {
-        rng.choose_mut_or_panic::<u8>(&mut []).to_owned()
-    });
+    both_panic!(slice, 0, |rng| rng.choose_or_panic::<u8>(&[]).to_owned());
+    both_panic!(slice, 0, |rng| rng
+        .choose_mut_or_panic::<u8>(&mut [])
+        .to_owned());
     panics(slice, 0, |rng| {
         rng.as_any().rng().choose_or_panic::<u8>(&[]).to_owned()
     });
-    panics("no item has a weight", 0, |rng| {
+    both_panic!("no item has a weight", 0, |rng| {
         rng.choose_weighted_or_panic(&[0, 0])
     });
-    panics("the weights add up to 2^64 or more", 0, |rng| {
+    both_panic!("the weights add up to 2^64 or more", 0, |rng| {
         rng.choose_weighted_or_panic(&[u64::MAX, 1])
     });
-    panics("`denominator` must be at least 1", 0, |rng| {
+    both_panic!("`denominator` must be at least 1", 0, |rng| {
         rng.ratio_or_panic(1, 0)
     });
-    panics("`places` must have at most `count` slots", 0, |rng| {
+    both_panic!("`places` must have at most `count` slots", 0, |rng| {
         rng.sample_or_panic(1, &mut [0; 2]);
+    });
+    both_panic!("cannot sample empty range 5..5", 0, |rng| rng.range(5..5));
+    both_panic!("cannot sample empty range 5..5", 0, |rng| {
+        rng.generate_range_or_panic(5..5)
     });
     for (p, text) in [(-0.5, "-0.5"), (1.5, "1.5"), (f64::NAN, "NaN")] {
         let text = format!("`p` must be from 0 to 1, not {text}");
-        panics(&text, 0, |rng| rng.gen_bool(p));
+        both_panic!(&text, 0, |rng| rng.gen_bool(p));
         panics(&text, 0, |rng| rng.as_any().rng().gen_bool(p));
     }
 }
 
 #[test]
 fn rejected_words() {
-    fn is_exhausted<F: FnMut(&mut Constant) -> R, R>(call: F) {
-        panics("128 words in a row were rejected", 128, call);
-    }
-    is_exhausted(|rng| rng.range(0..3_u8));
-    is_exhausted(|rng| rng.generate_range_or_panic(0..3_i64));
-    is_exhausted(|rng| rng.permute(&mut [1, 2, 3]));
-    is_exhausted(|rng| rng.shuffle_or_panic(&mut [1, 2, 3]));
-    is_exhausted(|rng| rng.partial_shuffle_or_panic(&mut [1, 2, 3], 1));
-    is_exhausted(|rng| rng.choose_or_panic(&[1, 2, 3]).to_owned());
-    is_exhausted(|rng| rng.choose_mut_or_panic(&mut [1, 2, 3]).to_owned());
-    is_exhausted(|rng| rng.choose_weighted_or_panic(&[1, 2]));
-    is_exhausted(|rng| rng.ratio_or_panic(1, 3));
-    is_exhausted(|rng| rng.sample_or_panic(3, &mut [0; 1]));
+    let text = "128 words in a row were rejected";
+    both_panic!(text, 128, |rng| rng.range(0..3_u8));
+    both_panic!(text, 128, |rng| rng.generate_range_or_panic(0..3_i64));
+    both_panic!(text, 128, |rng| rng.permute(&mut [1, 2, 3]));
+    both_panic!(text, 128, |rng| rng.shuffle_or_panic(&mut [1, 2, 3]));
+    both_panic!(text, 128, |rng| {
+        rng.partial_shuffle_or_panic(&mut [1, 2, 3], 1);
+    });
+    both_panic!(text, 128, |rng| rng.choose_or_panic(&[1, 2, 3]).to_owned());
+    both_panic!(text, 128, |rng| {
+        rng.choose_mut_or_panic(&mut [1, 2, 3]).to_owned()
+    });
+    both_panic!(text, 128, |rng| rng.choose_weighted_or_panic(&[1, 2]));
+    both_panic!(text, 128, |rng| rng.ratio_or_panic(1, 3));
+    both_panic!(text, 128, |rng| rng.sample_or_panic(3, &mut [0; 1]));
 }
 
 /// The word of a `u64` is below p * 2^64 exactly for the p that are greater than its 2^-64th part.
