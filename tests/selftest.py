@@ -330,6 +330,16 @@ def sums(counts, room):
                 counts.same(f"{call}: the skip is named again", lines[-14], "skipped: a compiler")
 
 
+def integration(counts, room):
+    """.ci/run runs the whole ./test, from any folder, and has its status."""
+    copy_of_repository(room, ".ci")
+    program(room / "test", 'echo "$PWD: $# words"\nexit "$STATUS"\n')
+    for status in (0, 1):
+        done = ran([str(room / ".ci/run")], room.parent, STATUS=str(status))
+        counts.same(f".ci/run of a test with status {status}", (done.stdout, done.returncode),
+                    (f"{room}: 0 words\n", status))
+
+
 def quick(counts, room):
     """./test quick takes the crates that differ from the last commit on main, and the crates with tests that depend on
     them."""
@@ -920,7 +930,7 @@ def main():
     counts = Counts()
     with tempfile.TemporaryDirectory() as name:
         room = Path(name).resolve()
-        for part in (sums, quick, crate, cargo, units, parts, streams, processors, page_parts, lints, opinions, records,
+        for part in (sums, integration, quick, crate, cargo, units, parts, streams, processors, page_parts, lints, opinions, records,
                      all_compared, mutants, definitions, installs):
             (room / part.__name__).mkdir()
             part(counts, room / part.__name__)
