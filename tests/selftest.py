@@ -852,6 +852,20 @@ def definitions(counts, room):
         counts.same(f"what {text!r} rests on", Definitions(room).behind(text), wanted)
 
 
+def kept_tools(counts, _):
+    """What tools/kept.py keeps depends on all modules of tools/ that tools/mutants.py imports, also through others."""
+    sys.path.insert(0, str(ROOT / "tools"))
+    from kept import TOOLS
+    modules = {path.stem: path.read_text(encoding="utf-8") for path in (ROOT / "tools").glob("*.py")}
+    reached, left = set(), {"mutants"}
+    while left:
+        name = left.pop()
+        reached.add(name)
+        imports = re.findall(r"^ *(?:from (\w+) import|import (.+)$)", modules[name], re.M)
+        left |= {word for pair in imports for word in re.findall(r"\w+", " ".join(pair))} & modules.keys() - reached
+    counts.same("the modules that a mutant's entry depends on", sorted(TOOLS), [f"{name}.py" for name in sorted(reached)])
+
+
 def installs(counts, room):
     """`available` finds a command that is there. For others it prints what to install, and installs it if CI is `true`
     and the user is root. `packages` says it of each crate that is not there."""
@@ -931,7 +945,7 @@ def main():
     with tempfile.TemporaryDirectory() as name:
         room = Path(name).resolve()
         for part in (sums, integration, quick, crate, cargo, units, parts, streams, processors, page_parts, lints, opinions, records,
-                     all_compared, mutants, definitions, installs):
+                     all_compared, mutants, definitions, kept_tools, installs):
             (room / part.__name__).mkdir()
             part(counts, room / part.__name__)
         copy_of_repository(room / "copy")
