@@ -696,9 +696,10 @@ def committed_module(counts, room, module):
 
 
 # A crate of two functions, the second of which calls the first, and a stand-in for its check. A 7 in the first body is
-# refused; a 7 in the second body is refused only if the first function is proved. An 8 is refused at another clause.
+# refused; a 7 in the second body is refused only if the first function is proved. An 8 is refused at another clause. A
+# 7 in a definition is refused in the function of its name.
 LOW = """pub fn one() -> u8
-    ensures value { result \u2261 1 }
+    ensures value { result \u2261 of_one }
 {
     1 + 0
 }
@@ -710,6 +711,7 @@ pub fn two() -> u8
     one() + 1
 }
 """
+SPECS = "pub of_one : \u2115\nof_one = 1\n\npub of_two : \u2115\nof_two = 2\n"
 RT = """#!/bin/sh
 [ "$1" = doc ] && echo "${0%/bin/rt}/page" || "${0%rt}rattle" "$@"
 """
@@ -718,7 +720,8 @@ echo called >>"$CALLS"
 eval "${MEANWHILE:-}"
 refused() { echo "./proofs/$1/Answers.antt:1:1: error: \\`$2\\`: no"; echo "fn low::$1: not proved"; status=1; }
 status=0
-case $(sed -n 4p src/lib.rt) in *7*) refused one returns ;; *) echo 'fn low::one: proved' ;; esac
+grep -qs 'of_two = 7' specs/Values.antt && refused two returns-clause-value
+case $(sed -n 4p src/lib.rt)$(grep -s 'of_one = ' specs/Values.antt) in *7*) refused one returns ;; *) echo 'fn low::one: proved' ;; esac
 case $(sed -n 11p src/lib.rt) in
     *7*) [ $status = 0 ] && refused two returns-clause-value || echo 'fn low::two: no proof: it calls `low::one`' ;;
     *8*) refused two returns-clause-even ;;
@@ -751,14 +754,35 @@ def mutants(counts, room):
     for of_one, of_two, clause, checks, wanted in [
         (7, 2, "value", 2, "1 passed, 1 failed"), (7, 7, "value", 3, "2 passed, 0 failed"),
         (1, 7, "value", 2, "1 passed, 1 failed"), (7, 8, "value", 3, "1 passed, 1 failed"),
-        (7, 8, "even", 2, "2 passed, 0 failed"), (7, 7, "", 3, "1 passed, 1 failed"),
+        (7, 8, "even", 2, "2 passed, 0 failed"), (7, 8, "value, even", 3, "1 passed, 1 failed"),
+        (7, 7, "", 3, "1 passed, 1 failed"),
     ]:
         texts = [f"mutant {name}, refused at {line}\nold: {old}\nnew: {old[:-1]}{new}\n" for name, line, old, new in
                  [("one", "value", "1 + 0", of_one), ("two", clause, "one() + 1", of_two)]]
         edits.write_text("\n".join(texts), encoding="utf-8")
         case = f"tools/mutants.py of {of_one} and {of_two}, refused at {clause}"
         counts.same(case, tried(KEPT=""), (checks, wanted, int(" 0 failed" not in wanted)))
+    unproved_and_apart(counts, room / "crates/low", tried, texts)
     kept_mutants(counts, room, tried, texts)
+
+
+def unproved_and_apart(counts, crate, tried, texts):
+    """All mutants of a crate fail if the unchanged crate is not proved. Two mutants are tried together only if neither
+    changes what the refusal of the other depends on."""
+    edits, specs = crate / "mutants/lib.edits", crate / "specs/Values.antt"
+    edits.write_text("\n".join(texts).replace("at \n", "at value\n"), encoding="utf-8")
+    refused = "grep -q '1 + 0' src/lib.rt && grep -q '() + 1' src/lib.rt && exit 1"
+    counts.same("mutants of a crate that is not proved", tried(KEPT="", MEANWHILE=refused), (1, "0 passed, 2 failed", 1))
+    specs.parent.mkdir()
+    specs.write_text(SPECS, encoding="utf-8")
+    # The second function depends on the first and on the definition of its value.
+    for name, old, body, clause in [("one", "1", "one() + 1", "even"), ("two", "2", "1 + 0", "value")]:
+        new = {"even": "one() + 8", "value": "1 + 7"}[clause]
+        edits.write_text(f"mutant of_body, refused at {clause}\nold: {body}\nnew: {new}\n\n"
+                         f"mutant of_value, refused at {name}: value\nfile: specs/Values.antt\n"
+                         f"old: of_{name} = {old}\nnew: of_{name} = 7\n", encoding="utf-8")
+        counts.same(f"mutants of {body} and of_{name}, which are not apart", tried(KEPT=""), (3, "2 passed, 0 failed", 0))
+    specs.unlink()
 
 
 def kept_mutants(counts, room, tried, texts):
@@ -830,12 +854,12 @@ def changed_mutants(counts, room, tried):
         record.write_text(recorded, encoding="utf-8")
 
 
-# Definitions and lemmas of a crate, and what each depends on.
+# Definitions and lemmas of a crate, in nested folders, and what each depends on.
 FILES = {
-    "specs/Sums.antt": "use A.{four}\n\npub one : ℕ\none = 1\n\nabbrev pub two : ℕ\ntwo =\n    1 + 1 -- one\n\n"
-                       "module _ (n : one) where\n  pub four : ℕ\n  four = n\n\npub three : ℕ\nthree = two\n",
+    "specs/numbers/Sums.antt": "use A.{four}\n\npub one : ℕ\none = 1\n\nabbrev pub two : ℕ\ntwo =\n    1 + 1 -- one\n\n"
+                               "module _ (n : one) where\n  pub four : ℕ\n  four = n\n\npub three : ℕ\nthree = two\n",
     "proofs/lemmas/Equal.antt": "use A.{four}\n\npub of_two : two ≡ 2\nof_two = refl\n\npub of_six : ℕ\nof_six = 6\n",
-    "src/lib.rt": "fn five() -> u8\n    ensures { result ≡ four }\n{\n    5\n}\n",
+    "src/numbers/five.rt": "fn five() -> u8\n    ensures { result ≡ four }\n{\n    5\n}\n",
 }
 BEHIND = {"one": {"one"}, "(three)": {"one", "three", "two"}, "of_six": {"of_six", "of_two", "two", "one"},
           "five();": {"five", "four", "one"}, "// one": set(), "use A.{one}": set()}
