@@ -65,6 +65,18 @@ CHANGES = [
     ("tests/quotes.py", "rust/nanorand-rand-core/README.md", "Ok(self.0.next_u64())", "Ok(self.0.next_u32())"),
     ("tests/quotes.py", "rust/nanorand-rand-core/README.md", "seed_from_u64(42)", "seed_from_u64(43)"),
     ("tests/quotes.py", "crates/dice/src/main.rt", "pips ≤ 6", "pips ≤ 7"),
+    ("tests/quotes.py", "tests/quotes.py", '    "docs/FAQ.md",\n', "", "docs/FAQ.md: DOCUMENTS lacks it"),
+    # In place of a mark, a table of definitions, whose word is the beginning of a name in the file.
+    ("tests/quotes.py", "README.md", "<!-- crates/dice/src/main.rt: throw -->\n",
+     "| [Blocks](crates/nanorand_core/specs/generators/Blocks.antt) | `plain_aft` |\n",
+     "declares no `plain_aft`", "a block that names no source"),
+    ("tests/quotes.py", "crates/nanorand_core/mutants/swap.edits", "mutant swap",
+     "mutant at_no_clause, refused at \nold: unsafe {\nnew: {\n\nmutant of_none, refused at swap_spec\n\n"
+     "mutant block_for_nothing, refused at swap_spec\nold: .read()\nnew: .peek()\n\n"
+     "mutant of_no_text, refused at swap_spec\nold: .seek()\nnew: .read()\n\nmutant swap",
+     "at_no_clause: it names no clause or goal", "of_none: it changes nothing",
+     "block_for_nothing: this text occurs 2 times in src/swap.rt", "of_no_text: this text occurs 0 times in src/swap.rt",
+     "two mutants are called block_for_nothing"),
     ("tests/declarations.py", "c/include/nanorand.h", "const uint8_t *list", "uint8_t *list"),
     ("tests/declarations.py", "c/include/nanorand.h", "uint32_t first, uint32_t last", "uint32_t first, uint64_t last"),
     ("tests/declarations.py", "c/include/nanorand.h", "uint64_t low;\n    uint64_t high;", "uint64_t high;\n    uint64_t low;"),
@@ -142,6 +154,9 @@ CHANGES = [
     ("tools/header.py --check", "crates/nanorand_c/src/version.rt", "10_000", "10_001"),
     ("tests/differences.py", "crates/nanorand/src/parts.rt", "/// The error", "pub fn spare() {}\n\n/// The error",
      "`parts::spare`: only the library"),
+    ("tests/differences.py", "crates/nanorand/src/parts.rt", "/// The error",
+     "pub static SPARE: u8 = 1;\n\npub struct Few {\n    pub many: u8,\n}\n\n/// The error",
+     "`parts::SPARE`: only the library", "`parts::Few::many`: only the library"),
     ("tests/differences.py", "crates/nanorand_core/src/choices.rt", "{below, ", "{below as under, ",
      "`choices::under`: only the library", "`choices::below`: it is listed as added"),
     ("tests/differences.py", "crates/nanorand/src/rand/chacha_groups.rt", "pub fn counter(", "pub fn count(",
@@ -665,6 +680,39 @@ def writers(counts, room):
     definitions.write_bytes(before[0])
 
 
+def links(counts, room):
+    """tests/links.py finds what is wrong in every document, and a file at the top that the map lacks."""
+    texts = {path: path.read_text(encoding="utf-8") for path in room.rglob("*.md")}
+    for path, text in texts.items():
+        path.write_text(f"{text}\n[A file](no_such_file.md), [a heading](#no-such-heading), `tools/no_such.py`\n",
+                        encoding="utf-8")
+    (room / "unmapped").touch()
+    done = ran(["tests/links.py"], room)
+    found = re.findall(r"^FAILED (\S+): ", done.stdout, re.M)
+    wanted = [*(str(path.relative_to(room)) for path in texts for _ in range(3)), "docs/ARCHITECTURE.md"]
+    counts.same("tests/links.py: the documents with two broken links and no script", sorted(found), sorted(wanted))
+    last = done.stdout.splitlines()[-1].partition(", ")[2]
+    counts.same("tests/links.py: what failed", (last, done.returncode), (f"{len(wanted)} failed", 1))
+    for path, text in texts.items():
+        path.write_text(text, encoding="utf-8")
+    (room / "unmapped").unlink()
+
+
+def digests(counts, room):
+    """tools/record.py compares every digit of each digest in the documents, but for those that tests/second_opinion.py
+    compares, and those of older versions in the changelog."""
+    for name, most in (("docs/PAGE.md", None), ("docs/RAFFLE.md", None), ("CHANGELOG.md", 1)):
+        path = room / name
+        text = path.read_text(encoding="utf-8")
+        places = [found.end() - 1 for found in re.finditer(r"\b[0-9a-f]{64}\b(?!  (?:entrants|-)$)", text, re.M)][:most]
+        counts.same(f"{name} has digests", places != [], True)
+        for place in places:
+            path.write_text(f"{text[:place]}{'01'[text[place] == '0']}{text[place + 1:]}", encoding="utf-8")
+            case = f"tools/record.py of {name}, with another digit in line {text.count(chr(10), 0, place) + 1}"
+            counts.same(case, ran(["tools/record.py", "--check"], room).returncode, 1)
+        path.write_text(text, encoding="utf-8")
+
+
 def page(counts, room):
     """web/build.py fails for a module with imports or another memory, and for a script that would end early."""
     module, module32, script = room / "module.wasm", room / "module32.wasm", room / "web/src/list.js"
@@ -974,7 +1022,7 @@ def main():
             part(counts, room / part.__name__)
         copy_of_repository(room / "copy")
         ran(["git", "init", "-q"], room / "copy")
-        for part in (changes, writers, page, browsers, ended_early, missing, builds):
+        for part in (changes, writers, links, digests, page, browsers, ended_early, missing, builds):
             part(counts, room / "copy")
     print(f"{counts.passed} passed, {counts.failed} failed")
     return 1 if counts.failed else 0
