@@ -595,6 +595,41 @@ def records(counts, room):
         counts.same(f"tests/compare_records.py: accepted_or_not, {script!r}", found, 60)
 
 
+def compared_often(counts, room):
+    """Each part of both scripts compares every program, and as often as the script says. To save time the lists are
+    short, and the numbers of records and changes are smaller."""
+    called, programs = [], ["/none/one", "/none/two"]
+
+    def result(arguments, *_, **__):
+        called.append(str(arguments[0]))
+        return 7 * (arguments[0] in programs), b"x", b"x"
+
+    def run(_, cwd, **__):
+        called.append(os.readlink(Path(cwd, "lots")))
+        return mock.Mock(returncode=7, stdout="")
+
+    sizes = {"ANNOUNCEMENTS": 400, "RECORDS": 400, "CHANGES": 2000}
+    counts.same("the numbers of records", {name: getattr(compare_records, name) for name in sizes}, sizes)
+    page = second_opinion.PAGE.read_text(encoding="utf-8")
+    for script, name, times, *given in [
+        (second_opinion, "draws", 1000, lambda seed, entrants, count: entrants[:count]),
+        (second_opinion, "draws_by_process", 25, "code"), (second_opinion, "draws_by_openssl", 25, "", room),
+        (second_opinion, "refusals", 27, "code"), (second_opinion, "examples", 8, page, room),
+        (compare_records, "announced", 20), (compare_records, "written_and_accepted", 5 * 20, room),
+        (compare_records, "accepted_or_not", 20, room), (compare_records, "of_the_draw_or_not", 2 * 20, room),
+    ]:
+        called.clear()
+        smaller = dict.fromkeys(sizes, 20) if script is compare_records else {"some_entrants": lambda *_: [b"a", b"b"]}
+        with mock.patch.multiple(script, result=result, **smaller), mock.patch.object(subprocess, "run", run), \
+                mock.patch.object(shutil, "which", lambda name: name):
+            found = [one for one in getattr(script, name)(programs, *given) if one]
+        by_program = [(called.count(one), sum(text.startswith(f"({Path(one).name}) ") for text in found))
+                      for one in programs]
+        counts.same(f"{script.__name__}: the calls and the differences of {name}", by_program, [(times, times)] * 2)
+    words = second_opinion.draws_from_words({"draw": lambda *_: [0]})
+    counts.same("second_opinion: the draws from words", sum(1 for _ in words), 436)
+
+
 def all_compared(counts, room):
     """Both scripts that compare programs run all their parts, and count what each finds."""
     program(room / "none", "exit 0\n")
@@ -1017,7 +1052,7 @@ def main():
     with tempfile.TemporaryDirectory() as name:
         room = Path(name).resolve()
         for part in (sums, integration, quick, crate, cargo, units, parts, streams, processors, page_parts, lints, opinions, records,
-                     all_compared, mutants, definitions, kept_tools, installs):
+                     compared_often, all_compared, mutants, definitions, kept_tools, installs):
             (room / part.__name__).mkdir()
             part(counts, room / part.__name__)
         copy_of_repository(room / "copy")
