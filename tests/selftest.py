@@ -11,6 +11,7 @@ import contextlib
 import io
 import os
 import re
+import runpy
 import shutil
 import subprocess
 import sys
@@ -548,6 +549,52 @@ exit 7
     counts.same("a bad lint and a good format", lines[-1], "1 passed, 1 failed")
 
 
+# Comparisons of a value with itself. The words are joined here, since tests/lint.sh also reads this file.
+ITSELF = {"crates/some_tests/src/lib.rt": ["assert_eq!(a, a)", "equal_at(&rt, a, &a)"],
+          "rust/some/tests/all.rs": ["assert_ne!(a, a, b)"], "tests/against_c/all.rs": ["equal(a, a)"],
+          "tests/all.py": [f"self.{call}(%s)" % ", ".join(words) for call, words in
+                           [("assertEqual", "aa"), ("same", "baa")]]}
+
+
+def lint(counts, room):
+    """tests/lint.sh fails for a value that is compared with itself, for a linter that fails, and for a warning of
+    shellcheck, if it is there."""
+    copy_of_repository(room, "tests/lint.sh", "tests/lib.sh", ".shellcheckrc")
+    for number in range(20):
+        program(room / f"scripts/{number}.sh", "")
+    for name in ("flake8", "mypy"):
+        program(room / "bin" / name, f'[ "$BAD" != {name} ]\n')
+    ran(["git", "init", "-q"], room)
+
+    def tried(bad):
+        done = ran(["tests/lint.sh"], room, PATH=f"{room / 'bin'}:{os.environ['PATH']}", BAD=bad, CI="")
+        return done.stdout, done.stdout.splitlines()[-1].partition(", ")[2]
+
+    counts.same("tests/lint.sh of good files", tried("none")[1], "0 failed")
+    program(room / "scripts/0.sh", "unused=1\n")
+    for name, lines in ITSELF.items():
+        (room / name).parent.mkdir(parents=True, exist_ok=True)
+        (room / name).write_text("".join(f"{line}\n" for line in lines), encoding="utf-8")
+    said, failed = tried("flake8")
+    missed = [(name, line) for name, lines in ITSELF.items() for line in lines if not re.search(
+        rf"{re.escape(name)}:\d+:{re.escape(line)}$", said, re.M)]
+    counts.same("tests/lint.sh: the comparisons of a value with itself that it misses", missed, [])
+    wanted = "3 failed" if shutil.which("shellcheck") else "2 failed"
+    counts.same("tests/lint.sh of these, of a warning of shellcheck, and if flake8 fails", failed, wanted)
+
+
+def page_counts(counts, _):
+    """web/tests/counts.py counts each case, and two values are the same only if they are equal."""
+    own = runpy.run_path(str(ROOT / "web/tests/counts.py"))["Counts"]()
+    with contextlib.redirect_stdout(io.StringIO()) as said:
+        for found, wanted in [("a", "a"), ([], []), (1, 2), ("a", "b"), (0, ""), ("", "a")]:
+            own.same("two values", found, wanted)
+        for wrong in ("", "a", "b", ""):
+            own.case("a case", wrong)
+    found = own.passed, own.failed, len(said.getvalue().splitlines())
+    counts.same("web/tests/counts.py: what passed and failed, and the lines for it", found, (4, 6, 6))
+
+
 def opinions(counts, room):
     """tests/second_opinion.py compares the status and both streams, in each of its parts."""
     wanted = 0, b"a\n", b""
@@ -1051,8 +1098,9 @@ def main():
     counts = Counts()
     with tempfile.TemporaryDirectory() as name:
         room = Path(name).resolve()
-        for part in (sums, integration, quick, crate, cargo, units, parts, streams, processors, page_parts, lints, opinions, records,
-                     compared_often, all_compared, mutants, definitions, kept_tools, installs):
+        for part in (sums, integration, quick, crate, cargo, units, parts, streams, processors, page_parts, page_counts,
+                     lints, lint, opinions, records, compared_often, all_compared, mutants, definitions, kept_tools,
+                     installs):
             (room / part.__name__).mkdir()
             part(counts, room / part.__name__)
         copy_of_repository(room / "copy")
