@@ -358,12 +358,12 @@ def integration(counts, room):
 
 def quick(counts, room):
     """./test quick takes the crates that differ from the last commit on main, and the crates with tests that depend on
-    them."""
-    calls = room / "calls"
+    them. It runs the tests of the cargo workspace if a file of it differs."""
     copy_of_repository(room, "test", "tests/lib.sh", "tools/crates.py")
     for name in re.findall(r"^    timed ((?:tests|tools|web)/\S+)", (ROOT / "test").read_text(encoding="utf-8"), re.M):
         stand_in(room / name)
     stand_in(room / "bin/rt", 'echo "${PWD##*/} $*" >>"$CALLS"')
+    stand_in(room / "bin/cargo", 'echo "cargo $*" >>"$CALLS"')
     for name, text in {"low": "", "of_low": "#[test]", "other": "#[test]", "low_alike": "#[test]",
                        "top": "#[test]"}.items():
         (room / "crates" / name / "src").mkdir(parents=True)
@@ -382,11 +382,24 @@ def quick(counts, room):
         if change:
             (room / "crates" / change / "src").mkdir(parents=True, exist_ok=True)
             (room / "crates" / change / "src/lib.rt").write_text("// changed")
-        calls.write_text("")
-        done = ran(["./test", "quick", *arguments], room, PATH=f"{room / 'bin'}:{os.environ['PATH']}",
-                   CALLS=str(calls), BAD="none", TEXT="", STATUS="0")
-        made = [line for line in calls.read_text().splitlines() if re.match(r"\w+ (check|try)", line)]
-        counts.same(f"./test quick {arguments}, after a change of {change}", (made, done.returncode), (wanted, 0))
+        counts.same(f"./test quick {arguments}, after a change of {change}", quick_calls(room, arguments), (wanted, 0))
+    of_other = [f"other {checked}", f"low_alike {tested}", f"other {tested}"]
+    for name in ("rust/one/src/lib.rs", "Cargo.toml", "Cargo.lock"):
+        (room / name).parent.mkdir(parents=True, exist_ok=True)
+        (room / name).write_text("")
+        wanted = ["cargo test --offline --quiet --workspace", *of_other], 0
+        counts.same(f"./test quick other, after a change of {name}", quick_calls(room, ["other"]), wanted)
+        (room / name).unlink()
+
+
+def quick_calls(room, arguments):
+    """The checks and the tests that ./test quick runs, and its status."""
+    calls = room / "calls"
+    calls.write_text("")
+    done = ran(["./test", "quick", *arguments], room, PATH=f"{room / 'bin'}:{os.environ['PATH']}", CALLS=str(calls),
+               BAD="none", TEXT="", STATUS="0")
+    made = re.findall(r"^(?:\w+ (?:check|try)|cargo test).*$", calls.read_text(), re.M)
+    return made, done.returncode
 
 
 # The stand-in for cargo and rustc: the oldest in the folder `oldest`, else a newer one. The calls in the file BAD fail,
