@@ -190,6 +190,8 @@ CHANGES = [
     ("tests/answers/make.py --check", "tests/answers/definitions.py", "0xE7037ED1A0B428DB", "0xE7037ED1A0B428DA"),
     ("tests/answers/make.py --check", "tests/answers/definitions.py", "return EMPTY_LINE, lines.index(b\"\") + 1",
      "return EMPTY_LINE, lines.index(b\"\")"),
+    ("tests/answers/make.py --check", "tests/answers/rows.py", "    yield from lots_rows()\n",
+     "    yield from lots_rows()\n    yield from lots_rows()\n", "a row stands twice"),
     ("tools/contracts.py --check", "tools/contracts.py", 'one.word in ("fn", "ghost")', 'one.word in ("ghost",)'),
     ("tools/contracts.py --check", "tools/contracts.py", 'item.brace).split("\\n")', 'item.brace).split("\\n")[:4]'),
     ("tools/contracts.py --check", "tools/contracts.py", "unfoldable )*pub (?:record |data )?(?P<name>", "unfoldable )*pub (?:data )?(?P<name>"),
@@ -213,6 +215,8 @@ CHANGES = [
     ("tools/pictures.py --check", "crates/nanorand/src/rand/keystream.rt", "use crate::parts::", "use crate::entropy::"),
     ("tools/pictures.py --check", "crates.txt", "\nlots: lots_core", "\nmore: lots_core\nlots: lots_core"),
     ("tools/pictures.py --check", "tools/layers.py", '"rand::halves", ', ""),
+    ("tools/pictures.py --check", "tools/layers.py", '["entropy"]', '["entropy", "entropies"]',
+     "a box holds what is not there: ['nanorand::entropies']"),
 ]
 # The commands that write files: the command, each file, and a text in it that is removed before.
 WRITERS = {
@@ -1033,6 +1037,26 @@ def kept_tools(counts, _):
     counts.same("the modules that a mutant's entry depends on", sorted(TOOLS), [f"{name}.py" for name in sorted(reached)])
 
 
+def book(counts, room):
+    """In tools/contracts.py, the sum of a file of mutants has the name of each and what refuses it, and a page that has
+    an address outside is not accepted."""
+    sys.path.insert(0, str(ROOT / "tools"))
+    import contracts
+    edits, sums = room / "crates/low/mutants/rand/all.edits", []
+    edits.parent.mkdir(parents=True)
+    (room / "PROMISES.md").touch()
+    with mock.patch.multiple(contracts, ROOT=room, DOCS=room):
+        for head, new in [("one, refused at value", "7"), ("one, refused at value", "8"), ("one, refused at even", "7"),
+                          ("two, refused at value", "7")]:
+            edits.write_text(f"mutant {head}\nold: 1\nnew: {new}\n", encoding="utf-8")
+            sums.append(contracts.sums_of_mutants()["crates/low/mutants/rand/all.edits"])
+        counts.same("mutants with the sum of the first", [one == sums[0] for one in sums], [True, True, False, False])
+        for html, is_there in [('<script src="http://a.org"></script>', True), ("<link href='https://a.org'>", True),
+                               ("<style></style><article>http://a.org</article>", False)]:
+            _, missing = contracts.check(contracts.Book(), html)
+            counts.same(f"an address in {html}", "no address outside" in missing, is_there)
+
+
 def installs(counts, room):
     """`available` finds a command that is there. For others it prints what to install, and installs it if CI is `true`
     and the user is root. `packages` says it of each crate that is not there."""
@@ -1113,7 +1137,7 @@ def main():
         room = Path(name).resolve()
         for part in (sums, integration, quick, crate, cargo, units, parts, streams, processors, page_parts, page_counts,
                      lints, lint, opinions, records, compared_often, all_compared, mutants, definitions, kept_tools,
-                     installs):
+                     book, installs):
             (room / part.__name__).mkdir()
             part(counts, room / part.__name__)
         copy_of_repository(room / "copy")
