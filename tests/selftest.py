@@ -76,7 +76,8 @@ CHANGES = [
      "mutant block_for_nothing, refused at swap_spec\nold: .read()\nnew: .peek()\n\n"
      "mutant of_no_text, refused at swap_spec\nold: .seek()\nnew: .read()\n\nmutant swap",
      "at_no_clause: it names no clause or goal", "of_none: it changes nothing",
-     "block_for_nothing: this text occurs 2 times in src/swap.rt", "of_no_text: this text occurs 0 times in src/swap.rt",
+     "block_for_nothing: this text occurs 2 times in src/swap.rt",
+     "of_no_text: this text occurs 0 times in src/swap.rt",
      "two mutants are called block_for_nothing"),
     ("tests/declarations.py", "c/include/nanorand.h", "const uint8_t *list", "uint8_t *list"),
     ("tests/declarations.py", "c/include/nanorand.h", "uint32_t first, uint32_t last", "uint32_t first, uint64_t last"),
@@ -661,7 +662,8 @@ def records(counts, room):
 
 def compared_often(counts, room):
     """Each part of both scripts compares every program, and as often as the script says. To save time the lists are
-    short, and the numbers of records and changes are smaller."""
+    short, and the numbers of records and changes are 20. The script skips announcements of a list with an empty line,
+    of which the first 20 have none."""
     called, programs = [], ["/none/one", "/none/two"]
 
     def result(arguments, *_, **__):
@@ -868,7 +870,10 @@ eval "${MEANWHILE:-}"
 refused() { echo "./proofs/$1/Answers.antt:1:1: error: \\`$2\\`: no"; echo "fn low::$1: not proved"; status=1; }
 status=0
 grep -qs 'of_two = 7' specs/Values.antt && refused two returns-clause-value
-case $(sed -n 4p src/lib.rt)$(grep -s 'of_one = ' specs/Values.antt) in *7*) refused one returns ;; *) echo 'fn low::one: proved' ;; esac
+case $(sed -n 4p src/lib.rt)$(grep -s 'of_one = ' specs/Values.antt) in
+    *7*) refused one returns ;;
+    *) echo 'fn low::one: proved' ;;
+esac
 case $(sed -n 11p src/lib.rt) in
     *7*) [ $status = 0 ] && refused two returns-clause-value || echo 'fn low::two: no proof: it calls `low::one`' ;;
     *8*) refused two returns-clause-even ;;
@@ -919,7 +924,8 @@ def unproved_and_apart(counts, crate, tried, texts):
     edits, specs = crate / "mutants/lib.edits", crate / "specs/Values.antt"
     edits.write_text("\n".join(texts).replace("at \n", "at value\n"), encoding="utf-8")
     refused = "grep -q '1 + 0' src/lib.rt && grep -q '() + 1' src/lib.rt && exit 1"
-    counts.same("mutants of a crate that is not proved", tried(KEPT="", MEANWHILE=refused), (1, "0 passed, 2 failed", 1))
+    found = tried(KEPT="", MEANWHILE=refused)
+    counts.same("mutants of a crate that is not proved", found, (1, "0 passed, 2 failed", 1))
     specs.parent.mkdir()
     specs.write_text(SPECS, encoding="utf-8")
     # The second function depends on the first and on the definition of its value.
@@ -928,7 +934,8 @@ def unproved_and_apart(counts, crate, tried, texts):
         edits.write_text(f"mutant of_body, refused at {clause}\nold: {body}\nnew: {new}\n\n"
                          f"mutant of_value, refused at {name}: value\nfile: specs/Values.antt\n"
                          f"old: of_{name} = {old}\nnew: of_{name} = 7\n", encoding="utf-8")
-        counts.same(f"mutants of {body} and of_{name}, which are not apart", tried(KEPT=""), (3, "2 passed, 0 failed", 0))
+        case = f"mutants of {body} and of_{name}, which are not apart"
+        counts.same(case, tried(KEPT=""), (3, "2 passed, 0 failed", 0))
     specs.unlink()
 
 
@@ -1034,7 +1041,8 @@ def kept_tools(counts, _):
         reached.add(name)
         imports = re.findall(r"^ *(?:from (\w+) import|import (.+)$)", modules[name], re.M)
         left |= {word for pair in imports for word in re.findall(r"\w+", " ".join(pair))} & modules.keys() - reached
-    counts.same("the modules that a mutant's entry depends on", sorted(TOOLS), [f"{name}.py" for name in sorted(reached)])
+    wanted = [f"{name}.py" for name in sorted(reached)]
+    counts.same("the modules that a mutant's entry depends on", sorted(TOOLS), wanted)
 
 
 def book(counts, room):
