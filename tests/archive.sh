@@ -76,6 +76,13 @@ table_of_files() {
         <(find "$root" -mindepth 1 -maxdepth 1 ! -name README.md ! -name LICENSE -printf '%P\n' | LC_ALL=C sort))"
 }
 
+# The names of the files below the archive's folder, in $work/found, are those in $work/wanted, and so are the bytes.
+same_files() {
+    local path
+    check "the list of $1" "$(diff "$work/wanted" "$work/found" | head -n 5)"
+    check "the bytes of $1" "$(while read -r path; do cmp "$path" "$root/$path" 2>&1; done <"$work/wanted" | head -n 5)"
+}
+
 # The files are those of the repository.
 sources() {
     local pair
@@ -87,7 +94,7 @@ sources() {
     git ls-files Cargo.toml Cargo.lock rust/{nanorand-{answers,proved,program,rand-core},draw,lots} \
         rust/nanorand-drop-in/{Cargo.toml,README.md,src} | sort >"$work/wanted"
     (cd "$root" && find Cargo.* rust -type f | sort) >"$work/found"
-    check 'the list of the Rust packages' "$(diff "$work/wanted" "$work/found" | head -n 5)"
+    same_files 'the Rust packages'
 }
 
 # The shared library: its name, its functions (the header's and no others), what it needs, and no executable stack.
@@ -170,7 +177,7 @@ python_program() {
         'import nanorand; print(nanorand.WyRand.seed_from_u64(42).range(1, 100))'
     git ls-files python/native python/nanorand | sort >"$work/wanted"
     (cd "$root" && find python/native python/nanorand -type f | grep -v __pycache__ | sort) >"$work/found"
-    check 'the files of the Python package' "$(diff "$work/wanted" "$work/found" | head -n 5)"
+    same_files 'the Python package'
 }
 
 # The module in the page is the file beside it, whose digest is in SHA256SUMS.

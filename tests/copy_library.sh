@@ -50,15 +50,17 @@ make_library() {
     mkdir -p "$1/crates"
     cp "$top/copy_library" "$top/LICENSE" "$1"
     for name in "${crates[@]}" nanorand_rand; do
-        mkdir -p "$1/crates/$name"/{src,specs,proofs,mutants,must-fail}
-        echo "$name" | tee "$1/crates/$name"/{src/lib.rt,specs/Lib.antt,proofs/Lib.antt,mutants/a.edit} >/dev/null
+        mkdir -p "$1/crates/$name"/{src/deep,specs/deep,proofs/deep,mutants,must-fail}
+        echo "$name" | tee "$1/crates/$name"/{src/lib.rt,specs/Lib.antt,proofs/Lib.antt,mutants/a.edit} \
+            "$1/crates/$name"/{src/deep/one.rt,specs/deep/One.antt,proofs/deep/Answers.antt} >/dev/null
     done
     echo 'See [the list](../../docs/PROMISES.md) and [the source](src/lib.rt).' >"$1/crates/nanorand/CALLING.md"
     echo 'See [the steps](CALLING.md#first) and [another page](OTHER.md).' >"$1/crates/nanorand/TASKS.md"
 }
 
 of_a_stand_in() {
-    local library=$work/library own=$work/own name sources='LICENSE proofs/Lib.antt specs/Lib.antt src/lib.rt '
+    local library=$work/library own=$work/own name sources='LICENSE '
+    sources+='proofs/Lib.antt proofs/deep/Answers.antt specs/Lib.antt specs/deep/One.antt src/deep/one.rt src/lib.rt '
     make_library "$library"
     mkdir -p "$own/crates/dice/src"
     git -C "$own" init -q
@@ -75,9 +77,10 @@ of_a_stand_in() {
     keep "$own/crates" older
     echo changed >"$library/crates/nanorand_core/src/lib.rt"
     mv "$library/crates/nanorand/proofs/Lib.antt" "$library/crates/nanorand/proofs/Other.antt"
+    mv "$library/crates/nanorand/proofs/deep" "$library/crates/nanorand/proofs/other"
     expect 'an update' "$stay" "$(copy "$library" "$own/crates")"
     expect 'a file that changed' changed "$(cat "$own/crates/nanorand_core/src/lib.rt")"
-    expect 'a file that went' Other.antt "$(ls "$own/crates/nanorand/proofs")"
+    expect 'files that went' 'Other.antt other/Answers.antt ' "$(files "$own/crates/nanorand/proofs")"
     for name in "${crates[@]}"; do
         expect "the proofs of $name" 'older older' "$(cat "$own/crates/$name"/out/{rlib,incremental}/proof | paste -sd ' ')"
     done

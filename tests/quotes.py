@@ -16,12 +16,13 @@ block is `rust` for a file of Rattle or Rust, `antt` for one of definitions or p
 In a table whose first column links a file of `specs/`, the second column names definitions. Each has to be declared in
 that file. In docs/PROMISES.md, each clause (`function: clause, clause`) and mutant has to exist, and each promise has
 to name a mutant, or to say `none` and why. Each mutant of the crates has to be named there, to name what it is refused
-at, and to apply.
+at, and to apply. The documents that are read are listed here, and each one with such a line or table has to be listed.
 
 The last line is N passed, M failed. With --write the blocks are first rewritten from the source.
 """
 
 import re
+import subprocess
 import sys
 from pathlib import Path
 
@@ -37,7 +38,6 @@ DOCUMENTS = [
     "crates/nanorand/CONTRACTS.md",
     "crates/nanorand/TASKS.md",
     "docs/FAQ.md",
-    "docs/LANGUAGES.md",
     "rust/nanorand-rand-core/README.md",
 ]
 MARK = re.compile(r"^<!-- (?P<path>\S+\.(?P<kind>rt|rs|antt|cpp|c|py|txt)): (?P<items>.+) -->$")
@@ -144,6 +144,17 @@ def check(document, write):
     return passed, wrong
 
 
+def check_documents(root):
+    """The documents with quotes, or with a table of definitions, that DOCUMENTS lacks. They would not be compared."""
+    names = subprocess.run(["git", "ls-files", "--cached", "--others", "--exclude-standard", "*.md"], cwd=root,
+                           check=True, stdout=subprocess.PIPE, encoding="utf-8").stdout.splitlines()
+    quoting = {name for name in names if (root / name).exists() and any(
+        MARK.match(line) or WORDS.match(line) for line in (root / name).read_text(encoding="utf-8").splitlines())}
+    wrong = [f"{name}: DOCUMENTS lacks it, and it has quotes" for name in sorted(quoting - set(DOCUMENTS))]
+    wrong += [f"{name}: DOCUMENTS has it, and it has no quotes" for name in sorted(set(DOCUMENTS) - quoting)]
+    return len(quoting & set(DOCUMENTS)), wrong
+
+
 def functions_of(root):
     """For each name its functions: the type or trait, whether that is a trait, and the names of the clauses."""
     functions = {}
@@ -222,7 +233,7 @@ def main():
             right, others = check(root / name, sys.argv[1:] == ["--write"])
             passed += right
             wrong += [line.replace(f"{root}/", "") for line in others]
-    for right, others in (check_promises(root), check_mutants(root)):
+    for right, others in (check_documents(root), check_promises(root), check_mutants(root)):
         passed += right
         wrong += [line.replace(f"{root}/", "") for line in others]
     for line in wrong:

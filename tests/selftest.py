@@ -11,6 +11,7 @@ import contextlib
 import io
 import os
 import re
+import runpy
 import shutil
 import subprocess
 import sys
@@ -65,6 +66,19 @@ CHANGES = [
     ("tests/quotes.py", "rust/nanorand-rand-core/README.md", "Ok(self.0.next_u64())", "Ok(self.0.next_u32())"),
     ("tests/quotes.py", "rust/nanorand-rand-core/README.md", "seed_from_u64(42)", "seed_from_u64(43)"),
     ("tests/quotes.py", "crates/dice/src/main.rt", "pips ≤ 6", "pips ≤ 7"),
+    ("tests/quotes.py", "tests/quotes.py", '    "docs/FAQ.md",\n', "", "docs/FAQ.md: DOCUMENTS lacks it"),
+    # In place of a mark, a table of definitions, whose word is the beginning of a name in the file.
+    ("tests/quotes.py", "README.md", "<!-- crates/dice/src/main.rt: throw -->\n",
+     "| [Blocks](crates/nanorand_core/specs/generators/Blocks.antt) | `plain_aft` |\n",
+     "declares no `plain_aft`", "a block that names no source"),
+    ("tests/quotes.py", "crates/nanorand_core/mutants/swap.edits", "mutant swap",
+     "mutant at_no_clause, refused at \nold: unsafe {\nnew: {\n\nmutant of_none, refused at swap_spec\n\n"
+     "mutant block_for_nothing, refused at swap_spec\nold: .read()\nnew: .peek()\n\n"
+     "mutant of_no_text, refused at swap_spec\nold: .seek()\nnew: .read()\n\nmutant swap",
+     "at_no_clause: it names no clause or goal", "of_none: it changes nothing",
+     "block_for_nothing: this text occurs 2 times in src/swap.rt",
+     "of_no_text: this text occurs 0 times in src/swap.rt",
+     "two mutants are called block_for_nothing"),
     ("tests/declarations.py", "c/include/nanorand.h", "const uint8_t *list", "uint8_t *list"),
     ("tests/declarations.py", "c/include/nanorand.h", "uint32_t first, uint32_t last", "uint32_t first, uint64_t last"),
     ("tests/declarations.py", "c/include/nanorand.h", "uint64_t low;\n    uint64_t high;", "uint64_t high;\n    uint64_t low;"),
@@ -151,6 +165,9 @@ CHANGES = [
     ("tools/header.py --check", "crates/nanorand_c/src/version.rt", "10_000", "10_001"),
     ("tests/differences.py", "crates/nanorand/src/parts.rt", "/// The error", "pub fn spare() {}\n\n/// The error",
      "`parts::spare`: only the library"),
+    ("tests/differences.py", "crates/nanorand/src/parts.rt", "/// The error",
+     "pub static SPARE: u8 = 1;\n\npub struct Few {\n    pub many: u8,\n}\n\n/// The error",
+     "`parts::SPARE`: only the library", "`parts::Few::many`: only the library"),
     ("tests/differences.py", "crates/nanorand_core/src/choices.rt", "{below, ", "{below as under, ",
      "`choices::under`: only the library", "`choices::below`: it is listed as added"),
     ("tests/differences.py", "crates/nanorand/src/rand/chacha_groups.rt", "pub fn counter(", "pub fn count(",
@@ -183,6 +200,8 @@ CHANGES = [
     ("tests/answers/make.py --check", "tests/answers/definitions.py", "0xE7037ED1A0B428DB", "0xE7037ED1A0B428DA"),
     ("tests/answers/make.py --check", "tests/answers/definitions.py", "return EMPTY_LINE, lines.index(b\"\") + 1",
      "return EMPTY_LINE, lines.index(b\"\")"),
+    ("tests/answers/make.py --check", "tests/answers/rows.py", "    yield from lots_rows()\n",
+     "    yield from lots_rows()\n    yield from lots_rows()\n", "a row stands twice"),
     ("tools/contracts.py --check", "tools/contracts.py", 'one.word in ("fn", "ghost")', 'one.word in ("ghost",)'),
     ("tools/contracts.py --check", "tools/contracts.py", 'item.brace).split("\\n")', 'item.brace).split("\\n")[:4]'),
     ("tools/contracts.py --check", "tools/contracts.py", "unfoldable )*pub (?:record |data )?(?P<name>", "unfoldable )*pub (?:data )?(?P<name>"),
@@ -206,6 +225,8 @@ CHANGES = [
     ("tools/pictures.py --check", "crates/nanorand/src/rand/keystream.rt", "use crate::parts::", "use crate::entropy::"),
     ("tools/pictures.py --check", "crates.txt", "\nlots: lots_core", "\nmore: lots_core\nlots: lots_core"),
     ("tools/pictures.py --check", "tools/layers.py", '"rand::halves", ', ""),
+    ("tools/pictures.py --check", "tools/layers.py", '["entropy"]', '["entropy", "entropies"]',
+     "a box holds what is not there: ['nanorand::entropies']"),
 ]
 # The commands that write files: the command, each file, and a text in it that is removed before.
 WRITERS = {
@@ -339,14 +360,24 @@ def sums(counts, room):
                 counts.same(f"{call}: the skip is named again", lines[-14], "skipped: a compiler")
 
 
+def integration(counts, room):
+    """.ci/run runs the whole ./test, from any folder, and has its status."""
+    copy_of_repository(room, ".ci")
+    program(room / "test", 'echo "$PWD: $# words"\nexit "$STATUS"\n')
+    for status in (0, 1):
+        done = ran([str(room / ".ci/run")], room.parent, STATUS=str(status))
+        counts.same(f".ci/run of a test with status {status}", (done.stdout, done.returncode),
+                    (f"{room}: 0 words\n", status))
+
+
 def quick(counts, room):
     """./test quick takes the crates that differ from the last commit on main, and the crates with tests that depend on
-    them."""
-    calls = room / "calls"
+    them. It runs the tests of the cargo workspace if a file of it differs."""
     copy_of_repository(room, "test", "tests/lib.sh", "tools/crates.py")
     for name in re.findall(r"^    timed ((?:tests|tools|web)/\S+)", (ROOT / "test").read_text(encoding="utf-8"), re.M):
         stand_in(room / name)
     stand_in(room / "bin/rt", 'echo "${PWD##*/} $*" >>"$CALLS"')
+    stand_in(room / "bin/cargo", 'echo "cargo $*" >>"$CALLS"')
     for name, text in {"low": "", "of_low": "#[test]", "other": "#[test]", "low_alike": "#[test]",
                        "top": "#[test]"}.items():
         (room / "crates" / name / "src").mkdir(parents=True)
@@ -365,11 +396,24 @@ def quick(counts, room):
         if change:
             (room / "crates" / change / "src").mkdir(parents=True, exist_ok=True)
             (room / "crates" / change / "src/lib.rt").write_text("// changed")
-        calls.write_text("")
-        done = ran(["./test", "quick", *arguments], room, PATH=f"{room / 'bin'}:{os.environ['PATH']}",
-                   CALLS=str(calls), BAD="none", TEXT="", STATUS="0")
-        made = [line for line in calls.read_text().splitlines() if re.match(r"\w+ (check|try)", line)]
-        counts.same(f"./test quick {arguments}, after a change of {change}", (made, done.returncode), (wanted, 0))
+        counts.same(f"./test quick {arguments}, after a change of {change}", quick_calls(room, arguments), (wanted, 0))
+    of_other = [f"other {checked}", f"low_alike {tested}", f"other {tested}"]
+    for name in ("rust/one/src/lib.rs", "Cargo.toml", "Cargo.lock"):
+        (room / name).parent.mkdir(parents=True, exist_ok=True)
+        (room / name).write_text("")
+        wanted = ["cargo test --offline --quiet --workspace", *of_other], 0
+        counts.same(f"./test quick other, after a change of {name}", quick_calls(room, ["other"]), wanted)
+        (room / name).unlink()
+
+
+def quick_calls(room, arguments):
+    """The checks and the tests that ./test quick runs, and its status."""
+    calls = room / "calls"
+    calls.write_text("")
+    done = ran(["./test", "quick", *arguments], room, PATH=f"{room / 'bin'}:{os.environ['PATH']}", CALLS=str(calls),
+               BAD="none", TEXT="", STATUS="0")
+    made = re.findall(r"^(?:\w+ (?:check|try)|cargo test).*$", calls.read_text(), re.M)
+    return made, done.returncode
 
 
 # The stand-in for cargo and rustc: the oldest in the folder `oldest`, else a newer one. The calls in the file BAD fail,
@@ -532,6 +576,52 @@ exit 7
     counts.same("a bad lint and a good format", lines[-1], "1 passed, 1 failed")
 
 
+# Comparisons of a value with itself. The words are joined here, since tests/lint.sh also reads this file.
+ITSELF = {"crates/some_tests/src/lib.rt": ["assert_eq!(a, a)", "equal_at(&rt, a, &a)"],
+          "rust/some/tests/all.rs": ["assert_ne!(a, a, b)"], "tests/against_c/all.rs": ["equal(a, a)"],
+          "tests/all.py": [f"self.{call}(%s)" % ", ".join(words) for call, words in
+                           [("assertEqual", "aa"), ("same", "baa")]]}
+
+
+def lint(counts, room):
+    """tests/lint.sh fails for a value that is compared with itself, for a linter that fails, and for a warning of
+    shellcheck, if it is there."""
+    copy_of_repository(room, "tests/lint.sh", "tests/lib.sh", ".shellcheckrc")
+    for number in range(20):
+        program(room / f"scripts/{number}.sh", "")
+    for name in ("flake8", "mypy"):
+        program(room / "bin" / name, f'[ "$BAD" != {name} ]\n')
+    ran(["git", "init", "-q"], room)
+
+    def tried(bad):
+        done = ran(["tests/lint.sh"], room, PATH=f"{room / 'bin'}:{os.environ['PATH']}", BAD=bad, CI="")
+        return done.stdout, done.stdout.splitlines()[-1].partition(", ")[2]
+
+    counts.same("tests/lint.sh of good files", tried("none")[1], "0 failed")
+    program(room / "scripts/0.sh", "unused=1\n")
+    for name, lines in ITSELF.items():
+        (room / name).parent.mkdir(parents=True, exist_ok=True)
+        (room / name).write_text("".join(f"{line}\n" for line in lines), encoding="utf-8")
+    said, failed = tried("flake8")
+    missed = [(name, line) for name, lines in ITSELF.items() for line in lines if not re.search(
+        rf"{re.escape(name)}:\d+:{re.escape(line)}$", said, re.M)]
+    counts.same("tests/lint.sh: the comparisons of a value with itself that it misses", missed, [])
+    wanted = "3 failed" if shutil.which("shellcheck") else "2 failed"
+    counts.same("tests/lint.sh of these, of a warning of shellcheck, and if flake8 fails", failed, wanted)
+
+
+def page_counts(counts, _):
+    """web/tests/counts.py counts each case, and two values are the same only if they are equal."""
+    own = runpy.run_path(str(ROOT / "web/tests/counts.py"))["Counts"]()
+    with contextlib.redirect_stdout(io.StringIO()) as said:
+        for found, wanted in [("a", "a"), ([], []), (1, 2), ("a", "b"), (0, ""), ("", "a")]:
+            own.same("two values", found, wanted)
+        for wrong in ("", "a", "b", ""):
+            own.case("a case", wrong)
+    found = own.passed, own.failed, len(said.getvalue().splitlines())
+    counts.same("web/tests/counts.py: what passed and failed, and the lines for it", found, (4, 6, 6))
+
+
 def opinions(counts, room):
     """tests/second_opinion.py compares the status and both streams, in each of its parts."""
     wanted = 0, b"a\n", b""
@@ -577,6 +667,42 @@ def records(counts, room):
                    f"echo x >&2\n{REFUSES}", f"echo x >&2\n{ACCEPTS}"]:
         found = wrong("accepted_or_not", script, room)
         counts.same(f"tests/compare_records.py: accepted_or_not, {script!r}", found, 60)
+
+
+def compared_often(counts, room):
+    """Each part of both scripts compares every program, and as often as the script says. To save time the lists are
+    short, and the numbers of records and changes are 20. The script skips announcements of a list with an empty line,
+    of which the first 20 have none."""
+    called, programs = [], ["/none/one", "/none/two"]
+
+    def result(arguments, *_, **__):
+        called.append(str(arguments[0]))
+        return 7 * (arguments[0] in programs), b"x", b"x"
+
+    def run(_, cwd, **__):
+        called.append(os.readlink(Path(cwd, "lots")))
+        return mock.Mock(returncode=7, stdout="")
+
+    sizes = {"ANNOUNCEMENTS": 400, "RECORDS": 400, "CHANGES": 2000}
+    counts.same("the numbers of records", {name: getattr(compare_records, name) for name in sizes}, sizes)
+    page = second_opinion.PAGE.read_text(encoding="utf-8")
+    for script, name, times, *given in [
+        (second_opinion, "draws", 1000, lambda seed, entrants, count: entrants[:count]),
+        (second_opinion, "draws_by_process", 25, "code"), (second_opinion, "draws_by_openssl", 25, "", room),
+        (second_opinion, "refusals", 27, "code"), (second_opinion, "examples", 8, page, room),
+        (compare_records, "announced", 20), (compare_records, "written_and_accepted", 5 * 20, room),
+        (compare_records, "accepted_or_not", 20, room), (compare_records, "of_the_draw_or_not", 2 * 20, room),
+    ]:
+        called.clear()
+        smaller = dict.fromkeys(sizes, 20) if script is compare_records else {"some_entrants": lambda *_: [b"a", b"b"]}
+        with mock.patch.multiple(script, result=result, **smaller), mock.patch.object(subprocess, "run", run), \
+                mock.patch.object(shutil, "which", lambda name: name):
+            found = [one for one in getattr(script, name)(programs, *given) if one]
+        by_program = [(called.count(one), sum(text.startswith(f"({Path(one).name}) ") for text in found))
+                      for one in programs]
+        counts.same(f"{script.__name__}: the calls and the differences of {name}", by_program, [(times, times)] * 2)
+    words = second_opinion.draws_from_words({"draw": lambda *_: [0]})
+    counts.same("second_opinion: the draws from words", sum(1 for _ in words), 436)
 
 
 def all_compared(counts, room):
@@ -664,6 +790,39 @@ def writers(counts, room):
     definitions.write_bytes(before[0])
 
 
+def links(counts, room):
+    """tests/links.py finds what is wrong in every document, and a file at the top that the map lacks."""
+    texts = {path: path.read_text(encoding="utf-8") for path in room.rglob("*.md")}
+    for path, text in texts.items():
+        path.write_text(f"{text}\n[A file](no_such_file.md), [a heading](#no-such-heading), `tools/no_such.py`\n",
+                        encoding="utf-8")
+    (room / "unmapped").touch()
+    done = ran(["tests/links.py"], room)
+    found = re.findall(r"^FAILED (\S+): ", done.stdout, re.M)
+    wanted = [*(str(path.relative_to(room)) for path in texts for _ in range(3)), "docs/ARCHITECTURE.md"]
+    counts.same("tests/links.py: the documents with two broken links and no script", sorted(found), sorted(wanted))
+    last = done.stdout.splitlines()[-1].partition(", ")[2]
+    counts.same("tests/links.py: what failed", (last, done.returncode), (f"{len(wanted)} failed", 1))
+    for path, text in texts.items():
+        path.write_text(text, encoding="utf-8")
+    (room / "unmapped").unlink()
+
+
+def digests(counts, room):
+    """tools/record.py compares every digit of each digest in the documents, but for those that tests/second_opinion.py
+    compares, and those of older versions in the changelog."""
+    for name, most in (("docs/PAGE.md", None), ("docs/RAFFLE.md", None), ("CHANGELOG.md", 1)):
+        path = room / name
+        text = path.read_text(encoding="utf-8")
+        places = [found.end() - 1 for found in re.finditer(r"\b[0-9a-f]{64}\b(?!  (?:entrants|-)$)", text, re.M)][:most]
+        counts.same(f"{name} has digests", places != [], True)
+        for place in places:
+            path.write_text(f"{text[:place]}{'01'[text[place] == '0']}{text[place + 1:]}", encoding="utf-8")
+            case = f"tools/record.py of {name}, with another digit in line {text.count(chr(10), 0, place) + 1}"
+            counts.same(case, ran(["tools/record.py", "--check"], room).returncode, 1)
+        path.write_text(text, encoding="utf-8")
+
+
 def page(counts, room):
     """web/build.py fails for a module with imports or another memory, and for a script that would end early."""
     module, module32, script = room / "module.wasm", room / "module32.wasm", room / "web/src/list.js"
@@ -695,9 +854,10 @@ def committed_module(counts, room, module):
 
 
 # A crate of two functions, the second of which calls the first, and a stand-in for its check. A 7 in the first body is
-# refused; a 7 in the second body is refused only if the first function is proved. An 8 is refused at another clause.
+# refused; a 7 in the second body is refused only if the first function is proved. An 8 is refused at another clause. A
+# 7 in a definition is refused in the function of its name.
 LOW = """pub fn one() -> u8
-    ensures value { result \u2261 1 }
+    ensures value { result \u2261 of_one }
 {
     1 + 0
 }
@@ -709,6 +869,7 @@ pub fn two() -> u8
     one() + 1
 }
 """
+SPECS = "pub of_one : \u2115\nof_one = 1\n\npub of_two : \u2115\nof_two = 2\n"
 RT = """#!/bin/sh
 [ "$1" = doc ] && echo "${0%/bin/rt}/page" || "${0%rt}rattle" "$@"
 """
@@ -717,7 +878,11 @@ echo called >>"$CALLS"
 eval "${MEANWHILE:-}"
 refused() { echo "./proofs/$1/Answers.antt:1:1: error: \\`$2\\`: no"; echo "fn low::$1: not proved"; status=1; }
 status=0
-case $(sed -n 4p src/lib.rt) in *7*) refused one returns ;; *) echo 'fn low::one: proved' ;; esac
+grep -qs 'of_two = 7' specs/Values.antt && refused two returns-clause-value
+case $(sed -n 4p src/lib.rt)$(grep -s 'of_one = ' specs/Values.antt) in
+    *7*) refused one returns ;;
+    *) echo 'fn low::one: proved' ;;
+esac
 case $(sed -n 11p src/lib.rt) in
     *7*) [ $status = 0 ] && refused two returns-clause-value || echo 'fn low::two: no proof: it calls `low::one`' ;;
     *8*) refused two returns-clause-even ;;
@@ -750,14 +915,37 @@ def mutants(counts, room):
     for of_one, of_two, clause, checks, wanted in [
         (7, 2, "value", 2, "1 passed, 1 failed"), (7, 7, "value", 3, "2 passed, 0 failed"),
         (1, 7, "value", 2, "1 passed, 1 failed"), (7, 8, "value", 3, "1 passed, 1 failed"),
-        (7, 8, "even", 2, "2 passed, 0 failed"), (7, 7, "", 3, "1 passed, 1 failed"),
+        (7, 8, "even", 2, "2 passed, 0 failed"), (7, 8, "value, even", 3, "1 passed, 1 failed"),
+        (7, 7, "", 3, "1 passed, 1 failed"),
     ]:
         texts = [f"mutant {name}, refused at {line}\nold: {old}\nnew: {old[:-1]}{new}\n" for name, line, old, new in
                  [("one", "value", "1 + 0", of_one), ("two", clause, "one() + 1", of_two)]]
         edits.write_text("\n".join(texts), encoding="utf-8")
         case = f"tools/mutants.py of {of_one} and {of_two}, refused at {clause}"
         counts.same(case, tried(KEPT=""), (checks, wanted, int(" 0 failed" not in wanted)))
+    unproved_and_apart(counts, room / "crates/low", tried, texts)
     kept_mutants(counts, room, tried, texts)
+
+
+def unproved_and_apart(counts, crate, tried, texts):
+    """All mutants of a crate fail if the unchanged crate is not proved. Two mutants are tried together only if neither
+    changes what the refusal of the other depends on."""
+    edits, specs = crate / "mutants/lib.edits", crate / "specs/Values.antt"
+    edits.write_text("\n".join(texts).replace("at \n", "at value\n"), encoding="utf-8")
+    refused = "grep -q '1 + 0' src/lib.rt && grep -q '() + 1' src/lib.rt && exit 1"
+    found = tried(KEPT="", MEANWHILE=refused)
+    counts.same("mutants of a crate that is not proved", found, (1, "0 passed, 2 failed", 1))
+    specs.parent.mkdir()
+    specs.write_text(SPECS, encoding="utf-8")
+    # The second function depends on the first and on the definition of its value.
+    for name, old, body, clause in [("one", "1", "one() + 1", "even"), ("two", "2", "1 + 0", "value")]:
+        new = {"even": "one() + 8", "value": "1 + 7"}[clause]
+        edits.write_text(f"mutant of_body, refused at {clause}\nold: {body}\nnew: {new}\n\n"
+                         f"mutant of_value, refused at {name}: value\nfile: specs/Values.antt\n"
+                         f"old: of_{name} = {old}\nnew: of_{name} = 7\n", encoding="utf-8")
+        case = f"mutants of {body} and of_{name}, which are not apart"
+        counts.same(case, tried(KEPT=""), (3, "2 passed, 0 failed", 0))
+    specs.unlink()
 
 
 def kept_mutants(counts, room, tried, texts):
@@ -829,12 +1017,12 @@ def changed_mutants(counts, room, tried):
         record.write_text(recorded, encoding="utf-8")
 
 
-# Definitions and lemmas of a crate, and what each depends on.
+# Definitions and lemmas of a crate, in nested folders, and what each depends on.
 FILES = {
-    "specs/Sums.antt": "use A.{four}\n\npub one : ℕ\none = 1\n\nabbrev pub two : ℕ\ntwo =\n    1 + 1 -- one\n\n"
-                       "module _ (n : one) where\n  pub four : ℕ\n  four = n\n\npub three : ℕ\nthree = two\n",
+    "specs/numbers/Sums.antt": "use A.{four}\n\npub one : ℕ\none = 1\n\nabbrev pub two : ℕ\ntwo =\n    1 + 1 -- one\n\n"
+                               "module _ (n : one) where\n  pub four : ℕ\n  four = n\n\npub three : ℕ\nthree = two\n",
     "proofs/lemmas/Equal.antt": "use A.{four}\n\npub of_two : two ≡ 2\nof_two = refl\n\npub of_six : ℕ\nof_six = 6\n",
-    "src/lib.rt": "fn five() -> u8\n    ensures { result ≡ four }\n{\n    5\n}\n",
+    "src/numbers/five.rt": "fn five() -> u8\n    ensures { result ≡ four }\n{\n    5\n}\n",
 }
 BEHIND = {"one": {"one"}, "(three)": {"one", "three", "two"}, "of_six": {"of_six", "of_two", "two", "one"},
           "five();": {"five", "four", "one"}, "// one": set(), "use A.{one}": set()}
@@ -849,6 +1037,41 @@ def definitions(counts, room):
     from definitions import Definitions
     for text, wanted in BEHIND.items():
         counts.same(f"what {text!r} rests on", Definitions(room).behind(text), wanted)
+
+
+def kept_tools(counts, _):
+    """What tools/kept.py keeps depends on all modules of tools/ that tools/mutants.py imports, also through others."""
+    sys.path.insert(0, str(ROOT / "tools"))
+    from kept import TOOLS
+    modules = {path.stem: path.read_text(encoding="utf-8") for path in (ROOT / "tools").glob("*.py")}
+    reached, left = set(), {"mutants"}
+    while left:
+        name = left.pop()
+        reached.add(name)
+        imports = re.findall(r"^ *(?:from (\w+) import|import (.+)$)", modules[name], re.M)
+        left |= {word for pair in imports for word in re.findall(r"\w+", " ".join(pair))} & modules.keys() - reached
+    wanted = [f"{name}.py" for name in sorted(reached)]
+    counts.same("the modules that a mutant's entry depends on", sorted(TOOLS), wanted)
+
+
+def book(counts, room):
+    """In tools/contracts.py, the sum of a file of mutants has the name of each and what refuses it, and a page that has
+    an address outside is not accepted."""
+    sys.path.insert(0, str(ROOT / "tools"))
+    import contracts
+    edits, sums = room / "crates/low/mutants/rand/all.edits", []
+    edits.parent.mkdir(parents=True)
+    (room / "PROMISES.md").touch()
+    with mock.patch.multiple(contracts, ROOT=room, DOCS=room):
+        for head, new in [("one, refused at value", "7"), ("one, refused at value", "8"), ("one, refused at even", "7"),
+                          ("two, refused at value", "7")]:
+            edits.write_text(f"mutant {head}\nold: 1\nnew: {new}\n", encoding="utf-8")
+            sums.append(contracts.sums_of_mutants()["crates/low/mutants/rand/all.edits"])
+        counts.same("mutants with the sum of the first", [one == sums[0] for one in sums], [True, True, False, False])
+        for html, is_there in [('<script src="http://a.org"></script>', True), ("<link href='https://a.org'>", True),
+                               ("<style></style><article>http://a.org</article>", False)]:
+            _, missing = contracts.check(contracts.Book(), html)
+            counts.same(f"an address in {html}", "no address outside" in missing, is_there)
 
 
 def installs(counts, room):
@@ -929,13 +1152,14 @@ def main():
     counts = Counts()
     with tempfile.TemporaryDirectory() as name:
         room = Path(name).resolve()
-        for part in (sums, quick, crate, cargo, units, parts, streams, processors, page_parts, lints, opinions, records,
-                     all_compared, mutants, definitions, installs):
+        for part in (sums, integration, quick, crate, cargo, units, parts, streams, processors, page_parts, page_counts,
+                     lints, lint, opinions, records, compared_often, all_compared, mutants, definitions, kept_tools,
+                     book, installs):
             (room / part.__name__).mkdir()
             part(counts, room / part.__name__)
         copy_of_repository(room / "copy")
         ran(["git", "init", "-q"], room / "copy")
-        for part in (changes, writers, page, browsers, ended_early, missing, builds):
+        for part in (changes, writers, links, digests, page, browsers, ended_early, missing, builds):
             part(counts, room / "copy")
     print(f"{counts.passed} passed, {counts.failed} failed")
     return 1 if counts.failed else 0

@@ -100,6 +100,13 @@ PLANTED = (
     ("rust/nanorand-proved/src/rand.rs", "    #[inline]\n    fn shuffle", "    #[cfg(feature = \"std\")]\n    fn shuffle"),
     ("rust/lots/src/entrants.rs", "pub fn count_entrants", "#[cfg(feature = \"std\")]\npub fn count_entrants"),
     ("rust/nanorand-proved/src/values/word.rs", "    if size == 1 << bits {", "    #[cfg(unix)]\n    if size == 1 << bits {"),
+    ("rust/nanorand-proved/src/samples.rs", "fn place_at<T>", "#[target_feature(enable = \"avx2\")]\nfn place_at<T>"),
+    ("rust/nanorand-proved/src/shuffles.rs", "pub fn identity(", "#[no_mangle]\npub fn identity("),
+    ("rust/nanorand-proved/src/shuffles.rs", "pub fn identity(", "#[export_name = \"memset\"]\npub fn identity("),
+    ("rust/lots/src/text.rs", "pub fn text_of", "#[link_section = \".init\"]\npub fn text_of"),
+    ("rust/lots/src/text.rs", "pub fn text_of", "#[unsafe(no_mangle)]\npub fn text_of"),
+    ("rust/draw/src/command.rs", "const MOST_ITEMS", "#[used]\nconst MOST_ITEMS"),
+    (f"{DRAW}/command.rt", "const MOST_ITEMS", "#[test]\nconst MOST_ITEMS"),
     ("rust/nanorand-proved/src/rand.rs", "pub mod chacha;", "#[path = \"other.rs\"]\npub mod chacha;"),
     # Visibility, generics, names.
     ("rust/nanorand-proved/src/rand/halves.rs", "pub(crate) fn folded", "pub fn folded"),

@@ -67,6 +67,28 @@ class Check(unittest.TestCase):
         found = self.failures(text=self.text.replace("Returns the version of", "Returns that of"))
         self.assertEqual(found, ["nanorand_v1_version is not explained", WRONG])
 
+    def refusal(self, call, *arguments):
+        """What a call ends with."""
+        with self.assertRaises(SystemExit) as ended:
+            call(*arguments)
+        return ended.exception.code.removeprefix("tools/header.py: ")
+
+    def test_comments_that_are_not_for_c(self):
+        for comment, reason in [("", "it is empty"), ("Draws a u8.", "it has u8"), ("Writes to &mut.", "it has &mut")]:
+            self.assertEqual(self.refusal(header.in_c_words, "one", comment),
+                             f"the comment of one is not for C programmers: {reason}")
+
+    def test_exports_in_a_nested_module(self):
+        text = (header.ROOT / "crates/nanorand_c/src/version.rt").read_text(encoding="utf-8")
+        export = text[text.index("///"):]
+        with tempfile.TemporaryDirectory() as name:
+            path = Path(name, "version.rt")
+            with mock.patch.object(header, "SOURCES", [path]):
+                path.write_text(text, encoding="utf-8")
+                self.assertEqual(len(header.functions()), 1)
+                path.write_text(f"{text}\nmod nested {{\n{export}}}\n", encoding="utf-8")
+                self.assertEqual(self.refusal(header.functions), "not every export is a function of a file")
+
     def test_symbols_of_an_archive(self):
         with mock.patch.object(subprocess, "run", return_value=mock.Mock(stdout=LISTED)):
             self.assertEqual(header.archived("liba.a"), {"nanorand_v1_one", "nanorand_v1_two", "other"})
