@@ -2,8 +2,8 @@
 # Tests the drop-in replacement for nanorand 0.7.0, rust/nanorand-drop-in, with cargo: tests/drop_in.sh.
 #
 # Its own tests come first; tests/packed.sh runs them with the oldest compiler. Then come clients of nanorand 0.7.0, built
-# with Debian's packages: a program that names all public items, three million calls compared with 0.7.0, and the
-# unedited tests of 0.7.0 and of flume. The last line is N passed, M failed.
+# with Debian's packages: a program that names all public items, three million calls compared with 0.7.0, and unedited
+# tests of 0.7.0 and of flume. The last line is N passed, M failed.
 # shellcheck source=tests/lib.sh
 source "$(dirname "${BASH_SOURCE[0]}")/lib.sh"
 cd rust/nanorand-drop-in || exit
@@ -177,15 +177,16 @@ if packages nanorand-0.7.0; then
 else
     skip 'the drop-in beside nanorand 0.7.0' 'that crate is not there'
 fi
-if packages flume-0.10. rand-0.8. crossbeam-channel-0.5. crossbeam-utils-0.8. async-std-1. \
-    futures-0.3. waker-fn-1. tokio-1.; then
+if packages flume-0.10.; then
     cp -r "$registry"/flume-0.10.* "$clients/flume"
-    # Without its benchmark, and without criterion, which only that needs.
-    rm -r "$clients/flume/benches"
-    sed -i '/^criterion = /d; /^\[\[bench\]\]/,$d' "$clients/flume/Cargo.toml"
+    # It calls nanorand only to select a channel, which of the files of tests only `basic` does, and documentation. The
+    # other tests, the benchmark, the examples and the crates that these need would take minutes to compile.
+    rm -r "$clients/flume/benches" "$clients/flume/examples"
+    find "$clients/flume/tests" -type f ! -name basic.rs -delete
+    sed -i '/^\[dev-dependencies\]/,$d' "$clients/flume/Cargo.toml"
     cargo_tests turns 5 flume --skip send_timeout --skip recv_timeout --skip recv_deadline
     cargo_tests turns 20 flume send_timeout recv_timeout recv_deadline
 else
-    skip 'the tests of flume 0.10 over the drop-in' 'that crate or one of its peers is not there'
+    skip 'the tests of flume 0.10 over the drop-in' 'that crate is not there'
 fi
 finish
