@@ -163,7 +163,6 @@ fn corner_states() {
     assert!(corners().count() > 300);
     for state in corners().take(CORNERS) {
         check_with::<0>(lanes, state);
-        check_with::<2>(lanes, state);
         check_with::<8>(lanes, state);
         check_with::<12>(lanes, state);
         check_with::<20>(lanes, state);
