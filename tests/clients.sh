@@ -1,16 +1,14 @@
 #!/usr/bin/env bash
 # Runs the unedited tests of three other crates over this library: tempfile and async-executor, which use fastrand, and
 # im-rc, which uses rand_xoshiro. The packages of tests/clients have the names of these two, and only the calls that the
-# three clients make. The clients, and what their tests need, are Debian's packages.
+# three clients make. The clients, and what their tests need, are Debian's packages. Of im-rc, the tests of sorting run,
+# for which alone it draws numbers.
 # Flume, a client of nanorand 0.7, is tested by tests/drop_in.sh.
 # shellcheck source=tests/lib.sh
 source "$(dirname "${BASH_SOURCE[0]}")/lib.sh"
 cd tests/clients || exit
 here=$PWD
 export CARGO_TARGET_DIR=$here/target
-# The random cases of each property of im-rc, instead of 256: they test its data structures, and not the generator.
-export PROPTEST_CASES=32
-
 # Whether cargo takes the crate $1 from this folder for a client, by these options. Else it would only warn.
 takes_ours() {
     local found
@@ -18,13 +16,14 @@ takes_ours() {
     grep -qF "($here/$1)" <<<"$found" || { echo "it takes $found"; return 1; }
 }
 
-# The tests of a client pass, which takes the package of this folder by a patch alone: client NAME-VERSION CRATE.
+# The tests of a client pass, which takes the package of this folder by a patch alone: client NAME-VERSION CRATE [WORD].
+# Only the tests whose names contain the word run.
 client() {
     local name=${1%-*} words
     cp -r "$registry/$1"* "$work/$name"
     words=("${debian[@]}" --manifest-path "$work/$name/Cargo.toml" --config "patch.crates-io.$2.path=\"$here/$2\"")
     step takes_ours "$2" "${words[@]}"
-    cargo_tests timeout 900 cargo test "${words[@]}"
+    cargo_tests timeout 900 cargo test "${words[@]}" -- "${@:3}"
 }
 
 # A package of this folder compiles with the oldest compiler, and is linted: shim CRATE.
@@ -71,7 +70,7 @@ fi
 if packages im-rc-15. rand_core-0.6. tiny-keccak-2. pretty_assertions-1. proptest-1. rand-0.8. rayon-1. serde-1. \
     serde_json-1. bit-set-0.5. lazy_static-1. quick-error-2. regex-syntax-0.6. rusty-fork-0.3. tempfile-3. \
     wait-timeout-0.2. env_logger-0.9. regex-1. aho-corasick-0.7.; then
-    client im-rc-15. rand_xoshiro
+    client im-rc-15. rand_xoshiro sort
 else
     skip 'the tests of im-rc' 'that crate or one of its peers is not there'
 fi
