@@ -8,7 +8,7 @@
 source "$(dirname "${BASH_SOURCE[0]}")/lib.sh"
 archives=tests/against_c/target/archives
 
-if ! available cargo cargo || ! available rustc rustc || ! available cc gcc; then
+if ! available cargo cargo rustc rustc cc gcc; then
     skip_all 'the Rust crate beside the static libraries' 'there is no cargo, rustc or cc'
 fi
 rm -rf "$archives"

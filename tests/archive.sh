@@ -130,7 +130,7 @@ c_programs() {
 
 # The example in C++ over the unpacked archive, by CMake.
 cmake_program() {
-    if ! available cmake cmake || ! available c++ g++; then
+    if ! available cmake cmake c++ g++; then
         skip 'a program by CMake' 'there is no cmake or no c++'
         return
     fi

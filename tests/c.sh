@@ -29,7 +29,7 @@ sizes=()
 
 # Builds and installs the library with rustc and cc.
 by_cargo() {
-    if ! available cc gcc || ! available rustc rustc || ! available cargo cargo; then
+    if ! available cc gcc rustc rustc cargo cargo; then
         skip 'the C interface of the library by cargo' 'there is no cc, rustc or cargo'
     elif PREFIX=$work/installed c/install >"$work/log" 2>&1; then
         archives[cargo]=$work/installed/lib/libnanorand.a
@@ -393,7 +393,7 @@ two_releases() {
 all_exports_run() {
     local source command package target=$work/coverage
     read -r command package < <(tools/uncovered.py --tools)
-    if [ -z "$package" ] || ! available "$command" "$package" || ! available cc gcc; then
+    if [ -z "$package" ] || ! available "$command" "$package" cc gcc; then
         skip 'whether the tests of C run all exports' "there is no $command or cc"
         return
     fi
@@ -429,8 +429,7 @@ fi
 if [ -n "${archives[cargo]-}" ]; then
     part c/tests/install.sh
     # Debian's rustc, an old version, may be installed beside a newer one.
-    available /usr/bin/rustc rustc
-    available /usr/bin/cargo cargo
+    available /usr/bin/rustc rustc /usr/bin/cargo cargo
     part tests/c_crate.sh
     all_exports_run
 fi

@@ -46,7 +46,7 @@ shim() {
     fi
 }
 
-if ! available cargo cargo || ! available rustc rustc; then
+if ! available cargo cargo rustc rustc; then
     skip_all 'the clients of other crates' 'there is no cargo or no rustc'
 fi
 shim fastrand

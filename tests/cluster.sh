@@ -108,8 +108,7 @@ refused_by_c() {
 
 by_mpi() {
     local processes
-    if ! available mpirun openmpi-bin ||
-        ! available '/usr/lib/*/openmpi/include/mpi.h' libopenmpi-dev; then
+    if ! available mpirun openmpi-bin '/usr/lib/*/openmpi/include/mpi.h' libopenmpi-dev; then
         skip 'the examples by MPI' 'there is no Open MPI'
         return
     fi
@@ -137,9 +136,9 @@ picture() {
 
 by_python() {
     local workers
-    if ! available '/usr/include/python3.*/Python.h' python3-dev ||
-        ! available /usr/lib/python3/dist-packages/distributed python3-distributed ||
-        ! available /usr/lib/python3/dist-packages/matplotlib python3-matplotlib; then
+    if ! available '/usr/include/python3.*/Python.h' python3-dev \
+        /usr/lib/python3/dist-packages/distributed python3-distributed \
+        /usr/lib/python3/dist-packages/matplotlib python3-matplotlib; then
         skip "the examples by Python" "there is no Dask, no Matplotlib or no python3-dev"
         return
     fi
@@ -165,7 +164,7 @@ left_over() {
     running
 }
 
-if ! available cc gcc || ! available rustc rustc; then
+if ! available cc gcc rustc rustc; then
     skip_all 'the examples of a cluster' 'there is no cc or no rustc'
 fi
 table=$examples/percolation.out

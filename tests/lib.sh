@@ -153,34 +153,50 @@ is_there() {
     esac
 }
 
-# Whether the command $1 is there (or a file, as in `is_there`). If it is not and CI is `true`, root installs the Debian
-# package $2, one script at a time, and updates the lists of packages if the old ones lack it. If it is still missing,
-# prints what to install.
+# Whether these commands are there (or files, as in `is_there`): available COMMAND PACKAGE.., each with the Debian package
+# that has it. If some are not and CI is `true`, root installs their packages, by one call, since each call of apt-get
+# takes seconds, and one script at a time. If the lists of packages are too old for that, it updates them, and then
+# installs each package by itself. For what is still missing, it prints what to install.
 available() {
-    is_there "$1" && return
-    if [ "${CI:-}" = true ] && [ "$(id -u)" -eq 0 ] && command -v apt-get >/dev/null; then
-        apt_get install --yes "$2" || { apt_get update && apt_get install --yes "$2"; }
-        is_there "$1" && return
+    local absent package
+    mapfile -t absent < <(absent "$@")
+    if [ ${#absent[@]} -gt 0 ] && [ "${CI:-}" = true ] && [ "$(id -u)" -eq 0 ] && command -v apt-get >/dev/null; then
+        apt_get install --yes "${absent[@]}" || {
+            apt_get update
+            for package in "${absent[@]}"; do
+                apt_get install --yes "$package"
+            done
+        }
+        mapfile -t absent < <(absent "$@")
     fi
-    printf 'to install: %s\n' "$2"
-    return 1
+    for package in "${absent[@]}"; do
+        printf 'to install: %s\n' "$package"
+    done
+    [ ${#absent[@]} -eq 0 ]
+}
+
+# The packages of the commands that are not there, among these commands and packages.
+absent() {
+    while [ $# -gt 0 ]; do
+        is_there "$1" || printf '%s\n' "$2"
+        shift 2
+    done
 }
 
 # Whether Debian's packages of these crates are there, in the versions that begin so: packages rand_core-0.6. hex-0.4.
 packages() {
-    local crate name status=0
+    local crate name pairs=()
     for crate; do
         name=${crate%-*}
-        available "$registry/$crate*" "librust-${name//_/-}-dev" || status=1
+        pairs+=("$registry/$crate*" "librust-${name//_/-}-dev")
     done
-    return "$status"
+    available "${pairs[@]}"
 }
 
 # Whether the Python $1 has venv and its own headers, which Debian packages separately.
 can_build() {
     has_what_builds "$1" && return
-    available '/usr/lib/python3.*/ensurepip' python3-venv
-    available '/usr/include/python3.*/Python.h' python3-dev
+    available '/usr/lib/python3.*/ensurepip' python3-venv '/usr/include/python3.*/Python.h' python3-dev
     has_what_builds "$1"
 }
 

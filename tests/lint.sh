@@ -39,7 +39,7 @@ else
     skip 'shellcheck' 'it is not there'
 fi
 # The types of python/nanorand/numpy.py are those of NumPy.
-if available mypy mypy && available /usr/lib/python3/dist-packages/numpy python3-numpy; then
+if available mypy mypy /usr/lib/python3/dist-packages/numpy python3-numpy; then
     step mypy --cache-dir "$work/mypy"
 else
     skip 'the types of Python code' 'there is no mypy, or no NumPy'

@@ -18,7 +18,7 @@ builds_of() {
     fi
     if ! asked_for cargo; then
         true
-    elif ! available cargo cargo || ! available rustc rustc; then
+    elif ! available cargo cargo rustc rustc; then
         skip "the program $name that cargo installs" 'there is no cargo or no rustc'
     else
         step cargo install --quiet --offline --path "rust/$name" --root "$work/installed"

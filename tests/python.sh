@@ -159,8 +159,8 @@ another_version() {
 # them run.
 counted() {
     local room=$work/counted
-    if ! { available /usr/lib/python3/dist-packages/coverage python3-coverage &&
-        available gcovr gcovr && command -v gcc gcov; } >/dev/null; then
+    if ! { available /usr/lib/python3/dist-packages/coverage python3-coverage gcovr gcovr &&
+        command -v gcc gcov; } >/dev/null; then
         skip 'whether the tests run all code of the Python package' 'there is no coverage, gcovr or gcov'
         return
     fi

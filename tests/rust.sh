@@ -19,10 +19,8 @@ copy_of_workspace() {
 
 # Gets what compiles, links and runs programs for other targets, as far as it is available.
 other_targets() {
-    local command package
-    while read -r command package; do
-        available "$command" "$package"
-    done <<'END'
+    local pairs
+    read -r -d '' -a pairs <<'END'
 /usr/lib/rustlib/wasm32-unknown-unknown libstd-rust-dev-wasm32
 /usr/lib/rustlib/x86_64-pc-windows-gnu libstd-rust-dev-windows
 x86_64-w64-mingw32-gcc gcc-mingw-w64-x86-64
@@ -35,6 +33,7 @@ qemu-arm qemu-user
 rust-lld lld
 node nodejs
 END
+    available "${pairs[@]}"
     [ "${CI:-}" != true ] || std_of_other_architectures "$work/std" >/dev/null 2>&1
     export NANORAND_STD=$work/std/usr/lib/rustlib
 }
@@ -139,14 +138,13 @@ patched_from_a_clone() {
         --config "source.empty.directory=\"$registry\"")" = 'WyRand { seed: 0x2a }' ]
 }
 
-if ! available cargo cargo || ! available rustc rustc; then
+if ! available cargo cargo rustc rustc; then
     skip_all 'the tests of the Rust packages' 'there is no cargo or no rustc'
 fi
 
 unit_tests 'tools/tests' python3 -W error -m unittest discover -s tools/tests
 # Debian's rustc, an old version, may be installed beside a newer one.
-available /usr/bin/rustc rustc
-available /usr/bin/cargo cargo
+available /usr/bin/rustc rustc /usr/bin/cargo cargo
 other_targets
 read -r command package < <(tools/uncovered.py --tools)
 [ -z "$package" ] || available "$command" "$package"

@@ -1076,15 +1076,24 @@ def book(counts, room):
 
 def installs(counts, room):
     """`available` finds a command that is there. For others it prints what to install, and installs it if CI is `true`
-    and the user is root. `packages` says it of each crate that is not there."""
-    program(room / "apt-get", "echo called >>$CALLS\n")
+    and the user is root: by one call, or if that fails by itself with new lists. `packages` says it of each crate that is
+    not there."""
     calls = room / "calls"
-    for command, environment, wanted in [("bash", {}, ([], 0, 0)), ("none", {"CI": ""}, (["to install: of-none"], 1, 0)),
-                                         ("none", {"CI": "true"}, (["to install: of-none"], 1, int(os.getuid() == 0)))]:
+    root = os.getuid() == 0
+    for words, environment, status, made in [
+        ("bash of-bash", {}, 0, []),
+        ("none of-none", {"CI": ""}, 0, []),
+        ("none of-none bash of-bash nor of-nor", {"CI": "true"}, 0, ["install --yes of-none of-nor"]),
+        ("none of-none nor of-nor", {"CI": "true"}, 1,
+         ["install --yes of-none of-nor", "update", "install --yes of-none", "install --yes of-nor"]),
+    ]:
+        program(room / "apt-get", f"echo \"$*\" >>$CALLS\nexit {status}\n")
         calls.write_text("")
-        lines, status = in_lib(f"available {command} of-{command}", room, CALLS=str(calls), **environment)
-        found = lines, status, len(calls.read_text().splitlines())
-        counts.same(f"available {command}, {environment}", found, wanted)
+        found = in_lib(f"available {words}", room, CALLS=str(calls), **environment)
+        wanted = [f"to install: {word}" for word in words.split() if word in ("of-none", "of-nor")]
+        counts.same(f"available {words}, {environment}", found, (wanted, int(bool(wanted))))
+        counts.same(f"available {words}, {environment}: calls", calls.read_text().splitlines(),
+                    [f"--quiet {line}" for line in made if root])
     lines, status = in_lib("packages no_such-1. nor-this-0.2.", room, CALLS=str(calls), CI="")
     counts.same("packages that are not there", (lines, status),
                 (["to install: librust-no-such-dev", "to install: librust-nor-this-dev"], 1))

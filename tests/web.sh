@@ -13,7 +13,7 @@ if ! command -v rt >/dev/null; then
     skip_all 'the page' 'there is no kit to prove and build it'
 fi
 browsers=()
-if available chromium chromium && available chromedriver chromium-driver; then
+if available chromium chromium chromedriver chromium-driver; then
     browsers+=(chromium)
 else
     skip 'the page in Chromium' 'there is no chromium or no chromedriver'
@@ -25,8 +25,7 @@ else
 fi
 [ ${#browsers[@]} -gt 0 ] || finish
 # These compile the module for 32-bit memory.
-available /usr/bin/rustc rustc
-available "/usr/lib/rustlib/wasm32-unknown-unknown/lib/libstd-*.rlib" libstd-rust-dev-wasm32
+available /usr/bin/rustc rustc "/usr/lib/rustlib/wasm32-unknown-unknown/lib/libstd-*.rlib" libstd-rust-dev-wasm32
 
 # The same sources make the same page again, and it equals the committed page.
 reproducible() {
