@@ -89,7 +89,9 @@ old = { package = "nanorand", path = "$original" }
 name = "agrees"
 path = "$here/clients/agrees/main.rs"
 END
-    cargo_tests cargo test "${debian[@]}" --release --manifest-path "$clients/agrees/Cargo.toml"
+    # Full optimization would take as long again to compile as it saves.
+    CARGO_PROFILE_RELEASE_OPT_LEVEL=1 CARGO_PROFILE_RELEASE_CODEGEN_UNITS=1 \
+        cargo_tests cargo test "${debian[@]}" --release --manifest-path "$clients/agrees/Cargo.toml"
 }
 
 # Compiles the program that names all public items, with the crate $1 and the features $2.

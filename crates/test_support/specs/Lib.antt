@@ -2,4 +2,3 @@ pub mod Steps
 pub mod Script
 pub mod Waste
 pub mod Forking
-pub mod Die

@@ -1,14 +1,12 @@
-//! What the tests use: generators and readers whose bytes are known, a user's own value type, and
-//! an allocator that fails at chosen requests.
+//! What the tests use: generators and readers whose bytes are known, and an allocator that fails at
+//! chosen requests.
 #![tactic(auto)]
 
 pub mod allocator;
-pub mod die;
 pub mod generators;
 pub mod readers;
 
 pub use allocator::Refusing;
-pub use die::Die;
 pub use generators::forking::Forking;
 pub use generators::script::Script;
 pub use generators::steps::Steps;

@@ -1,7 +1,7 @@
 //! Ranges, and the calls for which nanorand 0.7.0 does not do what it documents.
 
 use crate::own::State;
-use crate::pair::{below, of_types, Pair};
+use crate::pair::{below, Pair};
 use nanorand_proved::{Rng, WyRand};
 use std::cell::Cell;
 use std::collections::BTreeMap;
@@ -147,14 +147,8 @@ where
     New: new::SeedableRng<SEED, OUTPUT> + State,
     Old: old::SeedableRng<SEED, OUTPUT> + State,
 {
-    /// Draws from a range of a random type.
-    pub fn range(&mut self, choices: &mut WyRand, faults: &mut Faults) {
-        let draws: [fn(&mut Self, &mut WyRand, &mut Faults); 10] =
-            of_types!(number: u8, u16, u32, u64, usize, i8, i16, i32, i64, isize);
-        draws[below(choices, 10)](self, choices, faults);
-    }
-
-    fn number<T>(&mut self, choices: &mut WyRand, faults: &mut Faults)
+    /// Draws from a range of the type.
+    pub fn number<T>(&mut self, choices: &mut WyRand, faults: &mut Faults)
     where
         T: Number + new::RandomRange<New, OUTPUT> + old::RandomRange<Old, OUTPUT>,
     {

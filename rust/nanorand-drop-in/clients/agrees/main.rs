@@ -13,36 +13,40 @@ mod pair;
 use faults::{caught, quiet, Faults};
 use nanorand_proved::{Rng, WyRand};
 use own::{Own, State};
-use pair::Pair;
+use pair::{Buffered, Calls, Pair};
 
 const SEEDS: u64 = 36;
 const CALLS: usize = 6_000;
 
-/// Compares a generator, alone and in a buffer.
+/// Compares a generator, alone by the first calls and in a buffer by the others.
 fn check<New, Old, const SEED: usize, const OUTPUT: usize>(
     pair: Pair<New, Old, SEED, OUTPUT>,
+    (calls, of_buffer): (
+        Calls<Pair<New, Old, SEED, OUTPUT>>,
+        Calls<Buffered<New, Old, SEED, OUTPUT>>,
+    ),
     choices: &mut WyRand,
     faults: &mut Faults,
 ) where
     New: new::SeedableRng<SEED, OUTPUT> + State,
     Old: old::SeedableRng<SEED, OUTPUT> + State,
 {
-    pair.clone().agrees(CALLS, choices, faults);
+    pair.clone().agrees(&calls, CALLS, choices, faults);
     let mut buffered = pair.buffered();
     for _ in 0..10 {
-        buffered.agrees(CALLS / 10, choices, faults);
+        buffered.agrees(&of_buffer, CALLS / 10, choices, faults);
         buffered.reads(choices);
     }
 }
 
 macro_rules! check_all {
-    ($choices:ident, $faults:ident: $($generator:ident $(::<$rounds:literal>)? :: $new:ident($($seed:ident),+);)+) => { $({
+    ($choices:ident, $faults:ident: $($types:ident $generator:ident $(::<$rounds:literal>)? :: $new:ident($($seed:ident),+);)+) => { $({
         $( let $seed = $choices.generate(); )+
         let pair = Pair {
             new: new::$generator $(::<$rounds>)? ::$new($($seed),+),
             old: old::$generator $(::<$rounds>)? ::$new($($seed),+),
         };
-        check(pair, &mut $choices, &mut $faults);
+        check(pair, (Calls::$types(), Calls::$types()), &mut $choices, &mut $faults);
     })+ };
 }
 
@@ -105,20 +109,22 @@ fn three_million_calls() {
     for seed in 0..SEEDS {
         let mut choices = WyRand::new_seed(seed);
         check_all!(choices, faults:
-            WyRand::new_seed(seed);
-            Pcg64::new_seed(seed);
-            ChaCha::<6>::new_key(key, nonce);
-            ChaCha::<8>::new_key(key, nonce);
-            ChaCha::<12>::new_key(key, nonce);
-            ChaCha::<20>::new_key(key, nonce);
+            of_all_types WyRand::new_seed(seed);
+            of_few_types Pcg64::new_seed(seed);
+            of_few_types ChaCha::<6>::new_key(key, nonce);
+            of_few_types ChaCha::<8>::new_key(key, nonce);
+            of_few_types ChaCha::<12>::new_key(key, nonce);
+            of_all_types ChaCha::<20>::new_key(key, nonce);
         );
         let own = Own { seed, stuck: 0 };
         let pair = Pair {
             new: own.clone(),
             old: own,
         };
-        check(pair.clone(), &mut choices, &mut faults);
-        check(pair.buffered(), &mut choices, &mut faults);
+        let all = || (Calls::of_all_types(), Calls::of_all_types());
+        check(pair.clone(), all(), &mut choices, &mut faults);
+        let few = (Calls::of_few_types(), Calls::of_few_types());
+        check(pair.buffered(), few, &mut choices, &mut faults);
     }
     println!("{faults:?}");
     assert_eq!(faults.len(), 5, "each fault is met");

@@ -8,10 +8,44 @@ use std::io::Read;
 
 /// A method for each of the types.
 macro_rules! of_types {
-    ($method:ident: $($number:ty),+) => { [$(Self::$method::<$number>),+] };
+    ($method:ident: $($number:ty),+) => { vec![$(Pair::$method::<$number>),+] };
 }
 
-pub(crate) use of_types;
+/// The calls that are compared, each for several types, of a generator of both crates.
+pub struct Calls<P> {
+    values: Vec<fn(&mut P)>,
+    fills: Vec<fn(&mut P, usize)>,
+    ranges: Vec<fn(&mut P, &mut WyRand, &mut Faults)>,
+}
+
+impl<New, Old, const SEED: usize, const OUTPUT: usize> Calls<Pair<New, Old, SEED, OUTPUT>>
+where
+    New: new::SeedableRng<SEED, OUTPUT> + State,
+    Old: old::SeedableRng<SEED, OUTPUT> + State,
+{
+    /// All types. Compiling them takes seconds for each generator.
+    pub fn of_all_types() -> Self {
+        Self {
+            values: of_types!(value: u8, u16, u32, u64, u128, usize, i8, i16, i32, i64, i128, isize, bool, f32, f64),
+            fills: of_types!(items: u8, u128, i32, f64, bool),
+            ranges: of_types!(number: u8, u16, u32, u64, usize, i8, i16, i32, i64, isize),
+        }
+    }
+
+    /// A type of each kind.
+    pub fn of_few_types() -> Self {
+        Self {
+            values: of_types!(value: u8, u128, i64, bool, f64),
+            fills: of_types!(items: u8, u128),
+            ranges: of_types!(number: u8, u64, i32),
+        }
+    }
+}
+
+/// One of the items.
+fn any<'a, T>(choices: &mut WyRand, items: &'a [T]) -> &'a T {
+    &items[below(choices, items.len())]
+}
 
 /// A generator of both crates, in the same state.
 #[derive(Clone)]
@@ -38,27 +72,27 @@ where
     New: new::SeedableRng<SEED, OUTPUT> + State,
     Old: old::SeedableRng<SEED, OUTPUT> + State,
 {
-    /// Makes random calls, and compares all results and every 16th state or so.
-    pub fn agrees(&mut self, calls: usize, choices: &mut WyRand, faults: &mut Faults) {
-        for _ in 0..calls {
+    /// Makes `count` random calls, and compares all results and every 16th state or so.
+    pub fn agrees(
+        &mut self,
+        calls: &Calls<Self>,
+        count: usize,
+        choices: &mut WyRand,
+        faults: &mut Faults,
+    ) {
+        for _ in 0..count {
             match below(choices, 16) {
                 0 => assert_eq!(self.new.rand(), self.old.rand()),
-                1..=4 => self.draw(choices),
+                1..=4 => any(choices, &calls.values)(self),
                 5 => self.fill_bytes(choices),
-                6 => self.fill(choices),
-                7..=11 => self.range(choices, faults),
+                6 => any(choices, &calls.fills)(self, below(choices, 20)),
+                7..=11 => any(choices, &calls.ranges)(self, choices, faults),
                 12 => self.shuffle(choices),
                 13 => self.reseed(choices),
                 14 => *self = self.clone(),
                 _ => assert_eq!(self.new.state(), self.old.state()),
             }
         }
-    }
-
-    fn draw(&mut self, choices: &mut WyRand) {
-        let draws: [fn(&mut Self); 15] = of_types!(value:
-            u8, u16, u32, u64, u128, usize, i8, i16, i32, i64, i128, isize, bool, f32, f64);
-        draws[below(choices, 15)](self);
     }
 
     fn value<T>(&mut self)
@@ -74,12 +108,6 @@ where
         self.new.fill_bytes(&mut new);
         self.old.fill_bytes(&mut old);
         assert_eq!(new, old);
-    }
-
-    fn fill(&mut self, choices: &mut WyRand) {
-        let fills: [fn(&mut Self, usize); 5] = of_types!(items: u8, u128, i32, f64, bool);
-        let length = below(choices, 20);
-        fills[below(choices, 5)](self, length);
     }
 
     fn items<T>(&mut self, length: usize)

@@ -4,7 +4,7 @@ use crate::common::{array_of, bytes_of};
 use nanorand_proved::crypto::chacha::{
     chacha_block, chacha_increment_counter, chacha_init, chacha_rounds, chacha_unrounds,
 };
-use nanorand_proved::{BufferedRng, ChaCha12, ChaCha20, ChaCha8, Rng};
+use nanorand_proved::{BufferedRng, ChaCha12, ChaCha20, ChaCha8, Rng, WyRand};
 
 const KEY: &str = "000102030405060708090a0b0c0d0e0f101112131415161718191a1b1c1d1e1f";
 
@@ -55,6 +55,61 @@ fn rounds_and_blocks() {
     assert_eq!(chacha_block::<0>([1 << 31; 16]), [0; 16]);
     assert_eq!(chacha_block::<8>([0; 16]), [0; 16]);
     assert_eq!(chacha_block::<254>([0; 16]), [0; 16]);
+}
+
+/// The words of each quarter round: four columns, and then four diagonals.
+const LINES: [[usize; 4]; 8] = [
+    [0, 4, 8, 12],
+    [1, 5, 9, 13],
+    [2, 6, 10, 14],
+    [3, 7, 11, 15],
+    [0, 5, 10, 15],
+    [1, 6, 11, 12],
+    [2, 7, 8, 13],
+    [3, 4, 9, 14],
+];
+
+/// The rounds, one word at a time, as ChaCha was published.
+fn rounds_by_words(rounds: u8, state: [u32; 16]) -> [u32; 16] {
+    let mut x = state;
+    for _ in 0..rounds / 2 {
+        for [a, b, c, d] in LINES {
+            for (first, second) in [(16, 12), (8, 7)] {
+                x[a] = x[a].wrapping_add(x[b]);
+                x[d] = (x[d] ^ x[a]).rotate_left(first);
+                x[c] = x[c].wrapping_add(x[d]);
+                x[b] = (x[b] ^ x[c]).rotate_left(second);
+            }
+        }
+    }
+    x
+}
+
+/// The rounds and the block equal those computed word by word, and the inverse of the rounds
+/// restores the state.
+fn agrees_with_words<const ROUNDS: u8>(state: [u32; 16]) {
+    let mixed = chacha_rounds::<ROUNDS>(state);
+    let mut sum = rounds_by_words(ROUNDS, state);
+    assert_eq!(mixed, sum, "{ROUNDS} rounds");
+    assert_eq!(chacha_unrounds::<ROUNDS>(mixed), state, "{ROUNDS} rounds");
+    for (word, before) in sum.iter_mut().zip(state) {
+        *word = word.wrapping_add(before);
+    }
+    assert_eq!(chacha_block::<ROUNDS>(state), sum, "{ROUNDS} rounds");
+}
+
+#[test]
+fn two_bodies_agree() {
+    let mut rng = WyRand::new_seed(42);
+    for _ in 0..100 {
+        let state = [(); 16].map(|()| rng.generate());
+        agrees_with_words::<0>(state);
+        agrees_with_words::<2>(state);
+        agrees_with_words::<8>(state);
+        agrees_with_words::<12>(state);
+        agrees_with_words::<20>(state);
+        agrees_with_words::<254>(state);
+    }
 }
 
 #[test]

@@ -166,6 +166,10 @@ fn nothing_to_choose_from() {
     assert_eq!(rng.drawn(), 256);
     assert_eq!(below(&mut rng, 3_u8), Err(RangeError::Exhausted));
     assert_eq!(rng.drawn(), 384);
+    let mut items = [1, 2, 3];
+    let chosen = choose_mut(&mut rng, &mut items).map(|item| *item);
+    assert_eq!(chosen, Err(RangeError::Exhausted));
+    assert_eq!((items, rng.drawn()), ([1, 2, 3], 512));
 }
 
 #[test]

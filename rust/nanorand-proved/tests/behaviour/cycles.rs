@@ -69,12 +69,23 @@ fn distances_of_pcg64() {
             assert_eq!(rng.seed(), end);
         }
     }
-    for (start, end, parity) in [(0, 7, 1), (5, 2, 1), (5, 13, 0)] {
+}
+
+/// An even number of draws leads from a seed to those that are equal to it modulo 8, an odd number
+/// of draws to those whose sum with it is 7 modulo 8, and no number of draws to any other.
+#[test]
+fn distances_of_small_seeds() {
+    for (start, end) in (0..8).flat_map(|start| (0..16).map(move |end| (start, end))) {
         let mut rng = Pcg64::new_seed(start);
-        let draws = rng.distance(&Pcg64::new_seed(end)).expect("one cycle");
-        assert_eq!(draws % 2, parity, "{start} {end}");
-        rng.jump(draws);
-        assert_eq!(rng.seed(), end);
+        let distance = rng.distance(&Pcg64::new_seed(end));
+        let is_equal = start == end % 8;
+        let is_near = is_equal || (start + end) % 8 == 7;
+        assert_eq!(distance.is_some(), is_near, "{start} {end}");
+        if let Some(draws) = distance {
+            assert_eq!(draws % 2 == 0, is_equal, "{start} {end}");
+            rng.jump(draws);
+            assert_eq!(rng.seed(), end);
+        }
     }
 }
 

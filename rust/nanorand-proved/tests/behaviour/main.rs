@@ -14,6 +14,7 @@ mod any;
 mod any_calls;
 #[cfg(feature = "std")]
 mod buffers;
+mod cases;
 mod chacha;
 mod characters;
 mod choices;
