@@ -43,9 +43,9 @@ KINDS = {
     "a skip": ("skipped: a compiler\n6 passed, 0 failed", 0, (6, 0)),
 }
 
-# The changes, by the command that has to fail, and in groups that are made at once. Each has a file, a text in it, the
-# text that replaces its first occurrence, and texts that the command has to print, which no other change of the group
-# leads to. A change without them is alone in its group: the command has to fail.
+# The changes, by the command that has to fail. Those of a group are made at once. Each has a file, a text in it, the
+# text that replaces its first occurrence, and texts that the command has to print for it, and prints for no other change
+# of the group. A change that is alone in its group may have none.
 CHANGES = {
     "tests/quotes.py": [
         [
@@ -556,8 +556,9 @@ echo 'test result: ok. 3 passed; 0 failed'
 """
 
 
-# How many calls apart those are that end badly in one run. Some calls are made only if those just before them succeed.
-APART = 8
+# How many calls apart those are that end badly in one run: calls that fail, and tests that print nothing. Some calls are
+# made only if those just before them succeed.
+APART, SILENT_APART = 8, 2
 
 
 def crate_tested(room, bad, kind):
@@ -591,8 +592,8 @@ def crate(counts, room):
     counts.same("tests/workspace.sh passes", found, [0, 0])
     counts.same("two equal calls of tests/workspace.sh", len(set(made)), len(made))
     tests = [call for call in made if re.match(r"cargo (miri )?test ", call)]
-    for kind, calls in (("it fails", made), ("nothing", tests)):
-        for bad in (calls[place::APART] for place in range(APART)):
+    for kind, calls, apart in (("it fails", made, APART), ("nothing", tests, SILENT_APART)):
+        for bad in (calls[place::apart] for place in range(apart)):
             again, *found = crate_tested(room, bad, kind)
             counts.same(f"tests/workspace.sh: {kind}: {bad}", [set(bad) - set(again), *found], [set(), len(bad), 1])
 
