@@ -44,8 +44,8 @@ KINDS = {
 }
 
 # The changes, by the command that has to fail. Those of a group are made at once. Each has a file, a text in it, the
-# text that replaces its first occurrence, and texts that the command has to print for it, and prints for no other change
-# of the group. A change that is alone in its group may have none.
+# text that replaces its first occurrence, and texts that the command has to print for it, and prints for no other
+# change of the group. A change that is alone in its group may have none.
 CHANGES = {
     "tests/quotes.py": [
         [
@@ -433,8 +433,8 @@ def calls_of_whole(room):
 
 
 def whole(room, ends, busy="none"):
-    """The calls that ./test makes, its lines and its status. `ends` has the calls that end in another way, each with its
-    text and its status."""
+    """The calls that ./test makes, its lines and its status. `ends` has the calls that end in another way, each with
+    its text and its status."""
     calls, code = room / "calls", room / "ends"
     calls.write_text("")
     cases = [f"'{call}' | */'{call}') echo '{text}'; exit {status} ;;\n" for call, (text, status) in ends.items()]
@@ -556,8 +556,8 @@ echo 'test result: ok. 3 passed; 0 failed'
 """
 
 
-# How many calls apart those are that end badly in one run: calls that fail, and tests that print nothing. Some calls are
-# made only if those just before them succeed.
+# How many calls apart those are that end badly in one run: calls that fail, and tests that print nothing. Some calls
+# are made only if those just before them succeed.
 APART, SILENT_APART = 8, 2
 
 
