@@ -9,6 +9,7 @@ and whatever else it names has to exist. The last line is N passed, M failed.
 import re
 import subprocess
 import sys
+from functools import cache
 from pathlib import Path
 
 ROOT = Path(__file__).resolve().parent.parent
@@ -18,11 +19,13 @@ FENCED = re.compile(r"^```.*?^```$", re.M | re.S)
 LINK = re.compile(r"\]\((?!\w+:)(?P<file>[^()#\s]*)(?:#(?P<heading>[^()\s]+))?\)")
 
 
+@cache
 def prose_of(document):
     """The text of a document without its code blocks."""
     return FENCED.sub("", document.read_text(encoding="utf-8"))
 
 
+@cache
 def anchors_of(document):
     """The anchor of each heading, which a link has after `#`: its words in lower case, joined by hyphens."""
     headings = re.findall(r"^#+ (.*)$", prose_of(document), re.M)

@@ -3,8 +3,8 @@
 
 ./test runs in a folder where each of its parts is a stand-in that passes, fails, or ends without a count.
 tests/workspace.sh runs with a stand-in for cargo, and the scripts that compare programs run with programs that are
-wrong. Then a copy of the repository gets one change at a time. The script that compares what was changed has to fail,
-and the script that writes it has to restore it.
+wrong. Then a copy of the repository gets changes. The script that compares what was changed has to fail and to say what
+is wrong with each, and the script that writes it has to restore it.
 """
 
 import contextlib
@@ -43,191 +43,307 @@ KINDS = {
     "a skip": ("skipped: a compiler\n6 passed, 0 failed", 0, (6, 0)),
 }
 
-# The changes: the command that has to fail, the file, a text in it, the text that replaces its first occurrence, and
-# texts that the command has to print, if more than the status matters.
-CHANGES = [
-    ("tests/quotes.py", "README.md", "(pips ≤ 6)", "(pips ≤ 7)"),
-    ("tests/quotes.py", "README.md", "let pips: u64", "let pips: u32"),
-    ("tests/quotes.py", "docs/PROMISES.md", "`wyrand_seed_stays`", "`wyrand_seed_stay`"),
-    ("tests/quotes.py", "docs/PROMISES.md", "- Mutants refused: `clone_always_refused`\n", ""),
-    ("tests/quotes.py", "docs/PROMISES.md", "refused: none: a law", "refused: a law"),
-    ("tests/quotes.py", "docs/PROMISES.md", "`buffers_equal_by_their_generators`", "`wyrand_seed_stays`"),
-    ("tests/quotes.py", "docs/PROMISES.md", "`RandomGen::random: value, state`", "`RandomGen::random: value, states`"),
-    ("tests/quotes.py", "docs/PROMISES.md", "`RandomGen::random: value, state`", "`WyRand::random: value, state`"),
-    ("tests/quotes.py", "docs/PROMISES.md", "`BufferedRng::new: rest, inner`", "`WyRand::new: rest, inner`"),
-    ("tests/quotes.py", "c/README.md", "nanorand_wyrand_below(&rng, 6);", "nanorand_wyrand_below(&rng, 7);"),
-    ("tests/quotes.py", "c/examples/roll.c", "return 0;", "return 1;"),
-    ("tests/quotes.py", "c/README.md", "rng = ctypes.c_uint64()  #", "rng = ctypes.c_uint64() #", "the white space"),
-    ("tests/quotes.py", "c/examples/shuffle.cpp", "rng.range(1, 6)", "rng.range(1, 7)"),
-    ("tests/quotes.py", "c/examples/CMakeLists.txt", "STANDARD 17", "STANDARD 11"),
-    ("tests/quotes.py", "crates/nanorand/CALLING.md", "ensures", "requires"),
-    ("tests/quotes.py", "crates/nanorand/TASKS.md", "returns c =", "returns d ="),
-    ("tests/quotes.py", "crates/nanorand/CONTRACTS.md", "`plain_after`", "`plainly_after`"),
-    ("tests/quotes.py", "rust/nanorand-rand-core/README.md", "Ok(self.0.next_u64())", "Ok(self.0.next_u32())"),
-    ("tests/quotes.py", "rust/nanorand-rand-core/README.md", "seed_from_u64(42)", "seed_from_u64(43)"),
-    ("tests/quotes.py", "crates/dice/src/main.rt", "pips ≤ 6", "pips ≤ 7"),
-    ("tests/quotes.py", "tests/quotes.py", '    "docs/FAQ.md",\n', "", "docs/FAQ.md: DOCUMENTS lacks it"),
-    # In place of a mark, a table of definitions, whose word is the beginning of a name in the file.
-    ("tests/quotes.py", "README.md", "<!-- crates/dice/src/main.rt: throw -->\n",
-     "| [Blocks](crates/nanorand_core/specs/generators/Blocks.antt) | `plain_aft` |\n",
-     "declares no `plain_aft`", "a block that names no source"),
-    ("tests/quotes.py", "crates/nanorand_core/mutants/swap.edits", "mutant swap",
-     "mutant at_no_clause, refused at \nold: unsafe {\nnew: {\n\nmutant of_none, refused at swap_spec\n\n"
-     "mutant block_for_nothing, refused at swap_spec\nold: .read()\nnew: .peek()\n\n"
-     "mutant of_no_text, refused at swap_spec\nold: .seek()\nnew: .read()\n\nmutant swap",
-     "at_no_clause: it names no clause or goal", "of_none: it changes nothing",
-     "block_for_nothing: this text occurs 2 times in src/swap.rt",
-     "of_no_text: this text occurs 0 times in src/swap.rt",
-     "two mutants are called block_for_nothing"),
-    ("tests/declarations.py", "c/include/nanorand.h", "const uint8_t *list", "uint8_t *list"),
-    ("tests/declarations.py", "c/include/nanorand.h", "uint32_t first, uint32_t last", "uint32_t first, uint64_t last"),
-    ("tests/declarations.py", "c/include/nanorand.h", "uint64_t low;\n    uint64_t high;", "uint64_t high;\n    uint64_t low;"),
-    ("tests/declarations.py", "c/include/nanorand.h", "#define nanorand_version nanorand_v1_version\n", ""),
-    ("tests/declarations.py", "c/include/nanorand.h", " NANORAND_SYMBOL(version)", " NANORAND_SYMBOL(wyrand_u64)"),
-    ("tests/declarations.py", "crates/nanorand_c/src/lots.rt", "wanted: usize", "wanted: u32"),
-    ("tests/declarations.py", "c/include/nanorand.h", "NANORAND_NOT_NULL((1, 4))", "NANORAND_NOT_NULL((1))"),
-    ("tests/declarations.py", "c/include/nanorand.h", " NANORAND_USE_STATUS;", ";"),
-    ("tests/declarations.py", "c/include/nanorand.hpp", "[[nodiscard]] inline std::array", "inline std::array"),
-    ("tests/declarations.py", "c/include/nanorand.hpp", "[[nodiscard]] decltype(auto)", "decltype(auto)"),
-    ("tests/declarations.py", "c/include/nanorand.hpp", "#include <iterator>\n", "", "std::next is used"),
-    ("tests/declarations.py", "c/include/nanorand.hpp", "#include <limits>\n", "#include <limits>\n#include <list>\n",
-     "<list> is included and not used"),
-    ("tests/declarations.py", "c/include/nanorand.hpp", "std::next", "std::prev", "std::prev is used"),
-    ("tests/declarations.py", "tests/against_c/tests/common/mod.rs", "#[repr(C)]\n", ""),
-    ("tests/declarations.py", "tests/against_c/tests/common/mod.rs", "places: *mut usize", "places: *const usize"),
-    ("tests/declarations.py", "tests/against_c/tests/common/mod.rs", "index: u64", "index: u32"),
-    ("tests/declarations.py", "rust/nanorand-c/src/calls.rs", "last: u32", "last: u64"),
-    ("tests/declarations.py", "rust/nanorand-c/src/calls.rs", "$state, index: u64", "$state, index: u32"),
-    ("tests/declarations.py", "rust/nanorand-c/src/stream.rs", 'export_part!("keystream", GroupStream);\n', ""),
-    ("tests/declarations.py", "rust/nanorand-c/src/lots.rs", "text: Array<u8>", "text: ArrayMut<u8>"),
-    ("tests/declarations.py", "rust/nanorand-c/src/stream.rs", '"stream", Stream', '"stream", GroupStream'),
-    ("tests/declarations.py", "rust/nanorand-c/Cargo.toml", 'version = "1', 'version = "2'),
-    ("tests/declarations.py", "Cargo.toml", 'version = "1', 'version = "2'),
-    ("tests/declarations.py", "Cargo.lock", 'name = "draw"\nversion = "1', 'name = "draw"\nversion = "2'),
-    ("tests/declarations.py", "Cargo.lock", 'name = "lots"\nversion = "1', 'name = "lots"\nversion = "2'),
-    ("tests/declarations.py", "Cargo.lock", 'name = "nanorand-program"\nversion = "1',
-     'name = "nanorand-program"\nversion = "2'),
-    ("tests/declarations.py", "rust/nanorand-c/src/lib.rs", "    10000\n", "    10001\n"),
-    ("tests/declarations.py", "c/include/nanorand.h", "#define NANORAND_VERSION 1", "#define NANORAND_VERSION 2"),
-    ("tests/declarations.py", "pyproject.toml", 'Repository = "', 'Repository = "https://'),
-    ("tests/declarations.py", "rust/lots/LICENSE", "\n", "\n\n", "rust/lots/LICENSE: it is not the LICENSE"),
-    ("tests/declarations.py", "LICENSE", "\n", "\n\n", "rust/lots/LICENSE: it is not the LICENSE"),
-    ("tests/declarations.py", "rust/lots/Cargo.toml", '"no_std"]', '"no_std", "rng"]', "rust/lots/Cargo.toml: the keywords"),
-    ("tests/declarations.py", "rust/draw/Cargo.toml", '"seeded"', '"seeded and repeatable"', "the keywords"),
-    ("tests/declarations.py", "rust/draw/Cargo.toml", "-utilities", "-tools", "rust/draw/Cargo.toml: the categories"),
-    ("tests/declarations.py", "CHANGELOG.md", "## [1.", "## [2."),
-    ("tests/declarations.py", "CHANGELOG.md", "## [Unreleased]\n", ""),
-    ("tests/declarations.py", "rust/nanorand-proved/CHANGELOG.md", "### Added", "### New"),
-    ("tests/declarations.py", "c/README.md", "| 3 | `NANORAND_PAST", "| 2 | `NANORAND_PAST"),
-    ("tests/declarations.py", "c/README.md", "`nanorand_stream_...`", "`nanorand_streams_...`"),
-    ("tests/declarations.py", "c/README.md", "120 bytes", "112 bytes"),
-    ("tests/declarations.py", "docs/LANGUAGES.md", "| status 4 |", "| status 3 |"),
-    ("tests/declarations.py", "docs/LANGUAGES.md", "`wyrand_range_usize`", "`wyrand_range_size`"),
-    ("tests/declarations.py", "docs/LANGUAGES.md", "`.._range_i64`", "`.._range_i46`"),
-    ("tests/declarations.py", "rust/nanorand-proved/src/layer/any.rs", "    [] Pcg64,\n", ""),
-    ("tests/declarations.py", "rust/nanorand-proved/src/layer/defaults.rs", "Default for Pcg64 {", "Default for Pcg32 {"),
-    ("tests/declarations.py", "rust/nanorand-proved/src/layer/hash.rs", "Hash for ChaChaGroups<", "Hash for Groups<"),
-    ("tests/declarations.py", "rust/nanorand-proved/src/layer/seeds.rs", "> ChaChaStream<ROUNDS> {", "> Stream<ROUNDS> {"),
-    ("tests/declarations.py", "crates/nanorand/src/laws.rt", "⟦<Pcg64 as Blocks", "⟦<Pcg as Blocks",
-     "crates/nanorand/src/laws.rt: it has nothing for Pcg64"),
-    ("tests/declarations.py", "README.md", "| `WyRand` |", "| `Wyrand` |", "README.md: it has nothing for WyRand"),
-    ("tests/declarations.py", "docs/REFERENCE.md", "## ChaCha\n", "## Chacha\n", "it has nothing for ChaCha"),
-    ("tests/declarations.py", "python/tests/makers.py", '    "pcg64": Pcg64,\n', "", "it has nothing for Pcg64"),
-    ("tests/declarations.py", "c/tests/edges.c", "TESTS(chacha20, nanorand_chacha)\n", "", "it has nothing for ChaCha"),
-    ("tests/declarations.py", "tests/answers/vectors.py", '("pcg64", bytes(16), "3f75823f2f6939ad"),', "",
-     "it has nothing for Pcg64"),
-    ("tests/declarations.py", "rust/nanorand-rand-core/Cargo.toml", 'repository = "URL"', 'repository = "LRU"'),
-    ("tests/declarations.py", "c/include/nanorand.h", "an array of length 0.", "an array of length 0 or of a result."),
-    ("tests/declarations.py", "crates.txt", "nanorand_fairness sha2", "nanorand_fairness rand sha2"),
-    ("tools/record.py --check", "docs/PAGE.md", '3: "Chidi"', '3: "Ada"'),
-    ("tools/record.py --check", "docs/PAGE.md", "\nend of the record\n", "\n"),
-    ("tools/record.py --check", "docs/PAGE.md", "reserves: 1\n", "reserves: 2\n"),
-    ("tools/record.py --check", "docs/RAFFLE.md", "  nanorand.html\n", "0  nanorand.html\n"),
-    ("tools/record.py --check", "CHANGELOG.md", "`docs/nanorand.html`: `", "`docs/nanorand.html`: `0"),
-    ("tools/record.py --check", "pyproject.toml", 'Repository = "', 'Repository = "https://'),
-    ("tools/record.py --check", "docs/nanorand.html", "</footer>", "</footer> "),
-    ("web/build.py --check", "Cargo.toml", 'repository = "', 'repository = "https://'),
-    ("web/build.py --check", "web/src/refusal.js", "too few entrants", "too few"),
-    ("web/build.py --check", "docs/LOTS.md", '- **Entrants.** Standa', '- So: **Entrants.** Standa'),
-    ("tests/declarations.py", "crates/nanorand_c/src/version.rt", "10_000", "10_001"),
-    ("tools/record.py --check", "docs/LOTS.md", "Jun\nChidi", "Jun\nAda"),
-    ("tools/record.py --check", "docs/nanorand.html", 'id="module">AGFzbQE', 'id="module">AGFzbQI'),
-    ("tests/links.py", "README.md", "(docs/LOTS.md)", "(docs/LOT.md)"),
-    ("tests/links.py", "docs/PAGE.md", "#the-rule-of-the-draw", "#the-rules-of-the-draw"),
-    ("tests/links.py", "docs/PAGE.md", "## The record", "## A record"),
-    ("tests/links.py", "crates/nanorand/CONTRACTS.md", "](../../docs/DIFFERENCES.md", "](../../docs/DIFFERENCE.md"),
-    ("tests/links.py", "docs/CONTRIBUTING.md", "`tests/quotes.py` fails", "`tests/quote.py` fails"),
-    ("tests/links.py", "docs/ARCHITECTURE.md", "`bench/rust/`, `bench/c/`, ", "`bench/rust/`, ",
-     "its map lacks bench/c/"),
-    ("tests/links.py", "docs/ARCHITECTURE.md", "`bench/rust/`, ", "`bench/rust/`, `bench/rattle/`, ",
-     "its map has bench/rattle/, which is not there"),
-    ("tools/header.py --check", "c/include/nanorand.h", "const uint8_t *list", "uint8_t *list"),
-    ("tools/header.py --check", "crates/nanorand_c/src/version.rt", "10_000", "10_001"),
-    ("tests/differences.py", "crates/nanorand/src/parts.rt", "/// The error", "pub fn spare() {}\n\n/// The error",
-     "`parts::spare`: only the library"),
-    ("tests/differences.py", "crates/nanorand/src/parts.rt", "/// The error",
-     "pub static SPARE: u8 = 1;\n\npub struct Few {\n    pub many: u8,\n}\n\n/// The error",
-     "`parts::SPARE`: only the library", "`parts::Few::many`: only the library"),
-    ("tests/differences.py", "crates/nanorand_core/src/choices.rt", "{below, ", "{below as under, ",
-     "`choices::under`: only the library", "`choices::below`: it is listed as added"),
-    ("tests/differences.py", "crates/nanorand/src/rand/chacha_groups.rt", "pub fn counter(", "pub fn count(",
-     "`ChaChaGroups::count`: only the library", "`ChaChaGroups::counter`: it is listed as added"),
-    ("tests/differences.py", "crates/nanorand_core/src/values/range.rt", "    Exhausted,\n", "    Exhausted,\n    Late,\n",
-     "`RangeError::Late`: only the library"),
-    ("tests/differences.py", "crates/nanorand/src/parts.rt", "    fn part(", "    fn period() -> u128;\n\n    fn part(",
-     "`Parts::period`: only the library"),
-    ("tests/differences.py", "crates/nanorand/src/rand/wyrand.rt", "#[derive(Drop)]", "#[derive(Drop, Hash)]",
-     "`impl Hash for WyRand`: only the library"),
-    ("tests/differences.py", "docs/DIFFERENCES.md", "`at_index`, `key`, `nonce`, `counter`", "`at_index`, `key`, `nonce`",
-     "`ChaChaGroups::counter`: only the library"),
-    ("tests/differences.py", "docs/DIFFERENCES.md", "`Short`, ", "`Short`, `Long`, ",
-     "`entropy::EntropyError::Long`: it is listed as added"),
-    ("tests/differences.py", "docs/DIFFERENCES.md", "| `samples` | `sample`", "| `Rng` | `shuffle`",
-     "`Rng::shuffle`: it is listed as added", "`samples::sample`: only the library"),
-    ("tests/differences.py", "docs/DIFFERENCES.md", "`impl Default`", "`impl Hash`",
-     "`impl Default for Pcg64`: only 0.7.0", "`impl Hash for Pcg64`: it is listed as of 0.7.0"),
-    ("tests/differences.py", "docs/DIFFERENCES.md", "| `gen` | `values` |", "| `gen` | `value` |",
-     "`value`: it is listed as a name here"),
-    ("tests/differences.py", "tests/nanorand-0.7.0.txt", ", windows_uwp, backup", ", backup",
-     "`entropy::windows_uwp`: it is listed as of 0.7.0"),
-    ("tests/differences.py", "crates/nanorand/src/entropy.rt", "pub fn rdseed", "fn rdseed",
-     "`entropy::rdseed`: only 0.7.0"),
-    ("tests/differences.py", "crates/nanorand/src/rand.rt", "pub use wyrand::", "use wyrand::",
-     "`rand::WyRand`: only 0.7.0"),
-    ("tests/differences.py", "crates/nanorand/src/rand/pcg64.rt", "impl Eq for Pcg64", "impl Default for Pcg64",
-     "`impl Default for Pcg64`: it is listed as left out", "`impl Eq for Pcg64`: it is listed as added"),
-    ("tests/answers/make.py --check", "tests/answers/answers.tsv", "12558987674375533620", "12558987674375533621"),
-    ("tests/answers/make.py --check", "tests/answers/definitions.py", "0xE7037ED1A0B428DB", "0xE7037ED1A0B428DA"),
-    ("tests/answers/make.py --check", "tests/answers/definitions.py", "return EMPTY_LINE, lines.index(b\"\") + 1",
-     "return EMPTY_LINE, lines.index(b\"\")"),
-    ("tests/answers/make.py --check", "tests/answers/rows.py", "    yield from lots_rows()\n",
-     "    yield from lots_rows()\n    yield from lots_rows()\n", "a row stands twice"),
-    ("tools/contracts.py --check", "tools/contracts.py", 'one.word in ("fn", "ghost")', 'one.word in ("ghost",)'),
-    ("tools/contracts.py --check", "tools/contracts.py", 'item.brace).split("\\n")', 'item.brace).split("\\n")[:4]'),
-    ("tools/contracts.py --check", "tools/contracts.py", "unfoldable )*pub (?:record |data )?(?P<name>", "unfoldable )*pub (?:data )?(?P<name>"),
-    ("tools/contracts.py --check", "crates/nanorand_core/specs/values/Runs.antt", "pub quota :", "quota :"),
-    ("tools/contracts.py --check", "crates/nanorand/src/laws.rt", "PartsAreApart (2 ^ 126)", "PartsAreApart (2 ^ 125)"),
-    ("tools/contracts.py --check", "crates/nanorand/specs/generators/Parts.antt", "(i * draws)", "(i * draws + 1)"),
-    ("tools/contracts.py --check", "crates/lots_core/src/lib.rt", "pub mod run;", "pub mod run;\npub const FEW: u8 = 1;"),
-    ("tools/contracts.py --check", "tools/contracts.sums", "nanorand/src/laws.rt", "nanorand/src/law.rt"),
-    ("tools/contracts.py --check", "crates/nanorand_users/src/retry.rt", "IfOk result (λ delay. ceiling / 2 ≤ delay)",
-     "IfOk result (λ delay. 0 ≤ delay)"),
-    ("tools/contracts.py --check", "crates/nanorand_tests/src/comparing.rt", "    right: T,\n    note: impl Display + Drop,\n)\n    ensures { IsTrue (T.eq left right) }",
-     "    right: T,\n    note: impl Display + Drop,\n)"),
-    ("tools/bodies.py", "rust/lots/src/draws.rs", "number(places);", ""),
-    ("tools/bodies.py", "crates/draw_core/src/command.rt", "1000", "999"),
-    ("tools/bodies.py", "rust/nanorand-proved/src/samples.rs", "= count - places.len()", "= count - places.len() - 1"),
-    ("tools/bodies.py", "crates/nanorand_core/src/samples.rt", "Ok(())", "Ok(Default::default())"),
-    ("tools/pictures.py --check", "docs/runs.svg", "first", "second"),
-    ("tools/pictures.py --check", "docs/delivery.svg", "first", "second"),
-    ("tools/pictures.py --check", "docs/ARCHITECTURE.md", "exports --> lots\n", ""),
-    ("tools/pictures.py --check", "crates/nanorand/src/rand/chacha.rt", "use crate::entropy::{EntropyError, system};", ""),
-    ("tools/pictures.py --check", "crates/nanorand/src/rand/keystream.rt", "use crate::parts::", "use crate::entropy::"),
-    ("tools/pictures.py --check", "crates.txt", "\nlots: lots_core", "\nmore: lots_core\nlots: lots_core"),
-    ("tools/pictures.py --check", "tools/layers.py", '"rand::halves", ', ""),
-    ("tools/pictures.py --check", "tools/layers.py", '["entropy"]', '["entropy", "entropies"]',
-     "a box holds what is not there: ['nanorand::entropies']"),
-]
+# The changes, by the command that has to fail. Those of a group are made at once. Each has a file, a text in it, the
+# text that replaces its first occurrence, and texts that the command has to print for it, and prints for no other
+# change of the group. A change that is alone in its group may have none.
+CHANGES = {
+    "tests/quotes.py": [
+        [
+            ("README.md", "(pips ≤ 6)", "(pips ≤ 7)",
+             ": crates/dice/src/main.rt: throw: the source has `ensures face {"),
+            ("README.md", "let pips: u64", "let pips: u32",
+             "roll.rs: imports, main: the source has `let pips: u64 = rng.range(1..=6);`"),
+            ("docs/PROMISES.md", "`wyrand_seed_stays`", "`wyrand_seed_stay`", "the source has no `wyrand_seed_stay`",
+             "the mutant `wyrand_seed_stays` is missing"),
+            ("docs/PROMISES.md", "- Mutants refused: `clone_always_refused`\n", "",
+             "the mutant `clone_always_refused` is missing", "no mutant of the promise: Cloning `WyRand`"),
+            ("docs/PROMISES.md", "refused: none: a law", "refused: a law",
+             "no mutant of the promise: A request for as many bytes as a block has is one draw"),
+            ("docs/PROMISES.md", "`RandomGen::random: value, state`", "`RandomGen::random: value, states`",
+             "the source has no `RandomGen::random: value, states`"),
+            ("docs/PROMISES.md", "`BufferedRng::new: rest, inner`", "`WyRand::new: rest, inner`",
+             "the source has no `WyRand::new: rest, inner`"),
+            ("c/README.md", "nanorand_wyrand_below(&rng, 6);", "nanorand_wyrand_below(&rng, 7);",
+             "examples/roll.c: the whole file: the source has `uint64_t pips = 1 + nanorand_wyrand_below(&rng, 6);`"),
+            ("c/README.md", "rng = ctypes.c_uint64()  #", "rng = ctypes.c_uint64() #",
+             "examples/dice.py: the whole file: the white space is not that of the source"),
+            ("c/examples/shuffle.cpp", "rng.range(1, 6)", "rng.range(1, 7)",
+             ": examples/shuffle.cpp: the whole file: the source has `const int pips = rng.range(1, 7);`"),
+            ("c/examples/CMakeLists.txt", "STANDARD 17", "STANDARD 11",
+             "examples/CMakeLists.txt: the whole file: the source has `set(CMAKE_CXX_STANDARD 11)`"),
+            ("crates/nanorand/CALLING.md", "ensures", "requires",
+             ": ../dice/src/main.rt: the whole file: the source has `ensures face {"),
+            ("crates/nanorand/TASKS.md", "returns c =", "returns d =",
+             "loops/letters/Answers.antt: the whole file: the source has `returns c ="),
+            ("crates/nanorand/CONTRACTS.md", "`plain_after`", "`plainly_after`",
+             "Blocks.antt declares no `plainly_after`"),
+            ("rust/nanorand-rand-core/README.md", "Ok(self.0.next_u64())", "Ok(self.0.next_u32())",
+             "tests/recipes/rand_core_0_10.rs: the whole file: the source has `fn try_next_u64("),
+            ("rust/nanorand-rand-core/README.md", "seed_from_u64(42)", "seed_from_u64(43)",
+             "examples/seeded.rs: the whole file: the source has `let mut rng = Core("),
+        ],
+        [
+            ("docs/PROMISES.md", "`buffers_equal_by_their_generators`", "`wyrand_seed_stays`",
+             "the mutant `buffers_equal_by_their_generators` is missing"),
+            ("docs/PROMISES.md", "`RandomGen::random: value, state`", "`WyRand::random: value, state`",
+             "the source has no `WyRand::random: value, state`"),
+            ("c/examples/roll.c", "return 0;", "return 1;",
+             ": examples/roll.c: the whole file: the source has `return 1;`"),
+            ("crates/dice/src/main.rt", "pips ≤ 6", "pips ≤ 7",
+             ": ../dice/src/main.rt: the whole file: the source has `ensures face {"),
+            ("tests/quotes.py", '    "docs/FAQ.md",\n', "", "docs/FAQ.md: DOCUMENTS lacks it"),
+            # In place of a mark, a table of definitions, whose word is the beginning of a name in the file.
+            ("README.md", "<!-- crates/dice/src/main.rt: throw -->\n",
+             "| [Blocks](crates/nanorand_core/specs/generators/Blocks.antt) | `plain_aft` |\n",
+             "declares no `plain_aft`", "a block that names no source"),
+            ("crates/nanorand_core/mutants/swap.edits", "mutant swap",
+             "mutant at_no_clause, refused at \nold: unsafe {\nnew: {\n\nmutant of_none, refused at swap_spec\n\n"
+             "mutant block_for_nothing, refused at swap_spec\nold: .read()\nnew: .peek()\n\n"
+             "mutant of_no_text, refused at swap_spec\nold: .seek()\nnew: .read()\n\nmutant swap",
+             "at_no_clause: it names no clause or goal", "of_none: it changes nothing",
+             "block_for_nothing: this text occurs 2 times in src/swap.rt",
+             "of_no_text: this text occurs 0 times in src/swap.rt", "two mutants are called block_for_nothing"),
+        ],
+    ],
+    "tests/declarations.py": [
+        [
+            ("c/include/nanorand.h", "const uint8_t *list", "uint8_t *list",
+             "c/include/nanorand.h: nanorand_v1_lots_count is declared as"),
+            ("c/include/nanorand.h", "uint32_t first, uint32_t last", "uint32_t first, uint64_t last",
+             "c/include/nanorand.h: nanorand_v1_wyrand_range_u32 is declared as"),
+            ("c/include/nanorand.h", "uint64_t low;\n    uint64_t high;", "uint64_t high;\n    uint64_t low;",
+             "c/include/nanorand.h: Wide is declared as"),
+            ("c/include/nanorand.h", " NANORAND_SYMBOL(version)", " NANORAND_SYMBOL(wyrand_u64)",
+             "nanorand_v1_version has NANORAND_SYMBOL(wyrand_u64), not"),
+            ("crates/nanorand_c/src/lots.rt", "wanted: usize", "wanted: u32",
+             "c/include/nanorand.h: nanorand_v1_lots_draw is declared as",
+             "tests/against_c/tests/common/mod.rs: nanorand_v1_lots_draw is declared as",
+             "rust/nanorand-c/src: nanorand_v1_lots_draw is declared as"),
+            ("crates/nanorand_c/src/version.rt", "10_000", "10_001", "10_001, and its clause has 10000"),
+            ("c/include/nanorand.h", "NANORAND_NOT_NULL((1, 4))", "NANORAND_NOT_NULL((1))",
+             "nanorand_v1_wyrand_range_u32 has NANORAND_SYMBOL(wyrand_range_u32) NANORAND_NOT_NULL((1)) "),
+            ("c/include/nanorand.h", "an array of length 0.", "an array of length 0 or of a result.",
+             "No pointer may be null, except that of an array of length 0 or of a result"),
+            ("c/include/nanorand.hpp", "[[nodiscard]] inline std::array", "inline std::array",
+             "c/include/nanorand.hpp: digest returns a value without"),
+            ("c/include/nanorand.hpp", "[[nodiscard]] decltype(auto)", "decltype(auto)",
+             "c/include/nanorand.hpp: choose returns a value without"),
+            ("c/include/nanorand.hpp", "#include <iterator>\n", "",
+             "std::begin is used, and its header <iterator> is not included"),
+            ("c/include/nanorand.hpp", "#include <limits>\n", "#include <limits>\n#include <list>\n",
+             "<list> is included and not used"),
+            ("c/include/nanorand.hpp", "std::next", "std::prev",
+             "std::prev is used, and its header <None> is not included"),
+            ("tests/against_c/tests/common/mod.rs", "#[repr(C)]\n", "",
+             "tests/against_c/tests/common/mod.rs: WyRand is declared as None"),
+            ("tests/against_c/tests/common/mod.rs", "places: *mut usize", "places: *const usize",
+             "tests/against_c/tests/common/mod.rs: nanorand_v1_wyrand_sample is declared as"),
+            ("tests/against_c/tests/common/mod.rs", "index: u64", "index: u32",
+             "tests/against_c/tests/common/mod.rs: nanorand_v1_wyrand_part is declared as"),
+            ("rust/nanorand-c/src/calls.rs", "last: u32", "last: u64",
+             "rust/nanorand-c/src: nanorand_v1_pcg64_range_u32 is declared as"),
+            ("rust/nanorand-c/src/calls.rs", "$state, index: u64", "$state, index: u32",
+             "rust/nanorand-c/src: nanorand_v1_pcg64_part is declared as"),
+            ("rust/nanorand-c/src/stream.rs", 'export_part!("keystream", GroupStream);\n', "",
+             "nanorand_v1_keystream_part is exported and not declared"),
+            ("rust/nanorand-c/src/stream.rs", '"stream", Stream', '"stream", GroupStream',
+             "nanorand_v1_stream_u64 is declared as ([('state', 'mut GroupStream')]"),
+            ("rust/nanorand-c/src/lots.rs", "text: Array<u8>", "text: ArrayMut<u8>",
+             "rust/nanorand-c/src: nanorand_v1_lots_digest is declared as"),
+            ("rust/nanorand-c/src/lib.rs", "    10000\n", "    10001\n",
+             "rust/nanorand-c/src/lib.rs: version ['10001']"),
+            ("c/include/nanorand.h", "#define NANORAND_VERSION 1", "#define NANORAND_VERSION 2",
+             "c/include/nanorand.h: version ['20000']"),
+            ("rust/nanorand-c/Cargo.toml", 'version = "1', 'version = "2',
+             "rust/nanorand-c/Cargo.toml: version ['2.0.0']"),
+            ("Cargo.lock", 'name = "draw"\nversion = "1', 'name = "draw"\nversion = "2',
+             "Cargo.lock: version ['2.0.0', '1.0.0', '1.0.0']"),
+            ("CHANGELOG.md", "## [1.", "## [2.", "CHANGELOG.md: version ['2.0.0']"),
+            ("CHANGELOG.md", "## [Unreleased]\n", "", "CHANGELOG.md: it begins with # Changelog, ### Changed"),
+            ("rust/nanorand-proved/CHANGELOG.md", "### Added", "### New", "### New is no heading of a changelog"),
+            ("pyproject.toml", 'Repository = "', 'Repository = "https://', "'pyproject.toml': ['https://URL']"),
+            ("rust/lots/LICENSE", "\n", "\n\n", "rust/lots/LICENSE: it is not the LICENSE"),
+            ("rust/lots/Cargo.toml", '"no_std"]', '"no_std", "rng"]', "rust/lots/Cargo.toml: the keywords"),
+            ("rust/draw/Cargo.toml", '"seeded"', '"seeded and repeatable"', "rust/draw/Cargo.toml: the keywords"),
+            ("rust/draw/Cargo.toml", "-utilities", "-tools", "rust/draw/Cargo.toml: the categories"),
+            ("c/README.md", "| 3 | `NANORAND_PAST", "| 2 | `NANORAND_PAST", "c/README.md: PAST_PERIOD is no status 2"),
+            ("c/README.md", "`nanorand_stream_...`", "`nanorand_streams_...`", "c/README.md: streams_ is not in"),
+            ("c/README.md", "120 bytes", "112 bytes", "c/README.md: it does not say 120 bytes"),
+            ("docs/LANGUAGES.md", "| status 4 |", "| status 3 |", "docs/LANGUAGES.md: LOTS_EMPTY_LINE is no status 3"),
+            ("docs/LANGUAGES.md", "`wyrand_range_usize`", "`wyrand_range_size`",
+             "docs/LANGUAGES.md: wyrand_range_size is not in"),
+            ("docs/LANGUAGES.md", "`.._range_i64`", "`.._range_i46`", "docs/LANGUAGES.md: range_i46 is not in"),
+            ("rust/nanorand-proved/src/layer/any.rs", "    [] Pcg64,\n", "",
+             "rust/nanorand-proved/src/layer/any.rs: it has nothing for Pcg64"),
+            ("rust/nanorand-proved/src/layer/defaults.rs", "Default for Pcg64 {", "Default for Pcg32 {",
+             "rust/nanorand-proved/src/layer/defaults.rs: it has nothing for Pcg64"),
+            ("rust/nanorand-proved/src/layer/hash.rs", "Hash for ChaChaGroups<", "Hash for Groups<",
+             "rust/nanorand-proved/src/layer/hash.rs: it has nothing for ChaChaGroups<ROUNDS>"),
+            ("rust/nanorand-proved/src/layer/seeds.rs", "> ChaChaStream<ROUNDS> {", "> Stream<ROUNDS> {",
+             "rust/nanorand-proved/src/layer/seeds.rs: it has nothing for ChaChaStream<ROUNDS>"),
+            ("crates/nanorand/src/laws.rt", "⟦<Pcg64 as Blocks", "⟦<Pcg as Blocks",
+             "crates/nanorand/src/laws.rt: it has nothing for Pcg64"),
+            ("README.md", "| `WyRand` |", "| `Wyrand` |", "README.md: it has nothing for WyRand"),
+            ("docs/REFERENCE.md", "## ChaCha\n", "## Chacha\n", "docs/REFERENCE.md: it has nothing for ChaCha"),
+            ("python/tests/makers.py", '    "pcg64": Pcg64,\n', "", "python/tests/makers.py: it has nothing for Pcg64"),
+            ("c/tests/edges.c", "TESTS(chacha20, nanorand_chacha)\n", "", "c/tests/edges.c: it has nothing for ChaCha"),
+            ("tests/answers/vectors.py", '("pcg64", bytes(16), "3f75823f2f6939ad"),', "",
+             "tests/answers/vectors.py: it has nothing for Pcg64"),
+            ("crates.txt", "nanorand_fairness sha2", "nanorand_fairness rand sha2", "README.md: it names ["),
+        ],
+        [
+            ("c/include/nanorand.h", " NANORAND_USE_STATUS;", ";",
+             "nanorand_v1_wyrand_range_u32 has NANORAND_SYMBOL(wyrand_range_u32) NANORAND_NOT_NULL((1, 4)), not"),
+            ("Cargo.toml", 'version = "1', 'version = "2', "Cargo.toml: version ['2.0.0']"),
+            ("Cargo.lock", 'name = "lots"\nversion = "1', 'name = "lots"\nversion = "2',
+             "Cargo.lock: version ['1.0.0', '2.0.0', '1.0.0']"),
+            ("LICENSE", "\n", "\n\n", "rust/draw/LICENSE: it is not the LICENSE",
+             "rust/lots/LICENSE: it is not the LICENSE"),
+            ("rust/nanorand-rand-core/Cargo.toml", 'repository = "URL"', 'repository = "LRU"',
+             "'rust/nanorand-rand-core/Cargo.toml': ['LRU']"),
+        ],
+        [("Cargo.lock", 'name = "nanorand-program"\nversion = "1', 'name = "nanorand-program"\nversion = "2',
+          "Cargo.lock: version ['1.0.0', '1.0.0', '2.0.0']")],
+        # Without this name the script ends early.
+        [("c/include/nanorand.h", "#define nanorand_version nanorand_v1_version\n", "")],
+    ],
+    "tools/record.py --check": [
+        [
+            ("docs/PAGE.md", '3: "Chidi"', '3: "Ada"', "docs/PAGE.md differs"),
+            ("docs/RAFFLE.md", "  nanorand.html\n", "0  nanorand.html\n", "docs/RAFFLE.md differs"),
+            ("CHANGELOG.md", "`docs/nanorand.html`: `", "`docs/nanorand.html`: `0", "CHANGELOG.md differs"),
+            ("pyproject.toml", 'Repository = "', 'Repository = "https://', "pyproject.toml differs"),
+        ],
+        [("docs/PAGE.md", "\nend of the record\n", "\n")],
+        [("docs/PAGE.md", "reserves: 1\n", "reserves: 2\n")],
+        [("docs/nanorand.html", "</footer>", "</footer> ")],
+        [("docs/LOTS.md", "Jun\nChidi", "Jun\nAda")],
+        [("docs/nanorand.html", 'id="module">AGFzbQE', 'id="module">AGFzbQI')],
+    ],
+    "web/build.py --check": [
+        [("Cargo.toml", 'repository = "', 'repository = "https://')],
+        [("web/src/refusal.js", "too few entrants", "too few")],
+        [("docs/LOTS.md", '- **Entrants.** Standa', '- So: **Entrants.** Standa')],
+    ],
+    "tests/links.py": [
+        [
+            ("README.md", "(docs/LOTS.md)", "(docs/LOT.md)", "README.md: (docs/LOT.md): no such file"),
+            ("docs/PAGE.md", "#the-rule-of-the-draw", "#the-rules-of-the-draw",
+             "docs/PAGE.md: (LOTS.md#the-rules-of-the-draw): no such heading"),
+            ("docs/PAGE.md", "## The record", "## A record", "docs/PAGE.md: (#the-record): no such heading",
+             "CHANGELOG.md: (docs/PAGE.md#the-record): no such heading"),
+            ("crates/nanorand/CONTRACTS.md", "](../../docs/DIFFERENCES.md", "](../../docs/DIFFERENCE.md",
+             "crates/nanorand/CONTRACTS.md: (../../docs/DIFFERENCE.md): no such file"),
+            ("docs/CONTRIBUTING.md", "`tests/quotes.py` fails", "`tests/quote.py` fails",
+             "docs/CONTRIBUTING.md: tests/quote.py: no such script"),
+            ("docs/ARCHITECTURE.md", "`bench/rust/`, `bench/c/`, ", "`bench/rust/`, ", "its map lacks bench/c/"),
+            ("docs/ARCHITECTURE.md", "`bench/rust/`, ", "`bench/rust/`, `bench/rattle/`, ",
+             "its map has bench/rattle/, which is not there"),
+        ],
+    ],
+    "tools/header.py --check": [
+        [("c/include/nanorand.h", "const uint8_t *list", "uint8_t *list")],
+        [("crates/nanorand_c/src/version.rt", "10_000", "10_001")],
+    ],
+    "tests/differences.py": [
+        [
+            ("crates/nanorand/src/parts.rt", "/// The error", "pub fn spare() {}\n\n/// The error",
+             "`parts::spare`: only the library"),
+            ("crates/nanorand/src/parts.rt", "/// The error",
+             "pub static SPARE: u8 = 1;\n\npub struct Few {\n    pub many: u8,\n}\n\n/// The error",
+             "`parts::SPARE`: only the library", "`parts::Few::many`: only the library"),
+            ("crates/nanorand_core/src/choices.rt", "{below, ", "{below as under, ",
+             "`choices::under`: only the library", "`choices::below`: it is listed as added"),
+            ("crates/nanorand/src/rand/chacha_groups.rt", "pub fn counter(", "pub fn count(",
+             "`ChaChaGroups::count`: only the library", "`ChaChaGroups::counter`: it is listed as added"),
+            ("crates/nanorand_core/src/values/range.rt", "    Exhausted,\n", "    Exhausted,\n    Late,\n",
+             "`RangeError::Late`: only the library"),
+            ("crates/nanorand/src/parts.rt", "    fn part(", "    fn period() -> u128;\n\n    fn part(",
+             "`Parts::period`: only the library"),
+            ("crates/nanorand/src/rand/wyrand.rt", "#[derive(Drop)]", "#[derive(Drop, Hash)]",
+             "`impl Hash for WyRand`: only the library"),
+            ("docs/DIFFERENCES.md", "`Short`, ", "`Short`, `Long`, ",
+             "`entropy::EntropyError::Long`: it is listed as added"),
+            ("docs/DIFFERENCES.md", "| `samples` | `sample`", "| `Rng` | `shuffle`",
+             "`Rng::shuffle`: it is listed as added", "`samples::sample`: only the library"),
+            ("docs/DIFFERENCES.md", "| `gen` | `values` |", "| `gen` | `value` |",
+             "`value`: it is listed as a name here"),
+            ("tests/nanorand-0.7.0.txt", ", windows_uwp, backup", ", backup",
+             "`entropy::windows_uwp`: it is listed as of 0.7.0"),
+            ("crates/nanorand/src/entropy.rt", "pub fn rdseed", "fn rdseed", "`entropy::rdseed`: only 0.7.0"),
+            ("crates/nanorand/src/rand.rt", "pub use wyrand::", "use wyrand::", "`rand::WyRand`: only 0.7.0"),
+            ("crates/nanorand/src/rand/pcg64.rt", "impl Eq for Pcg64", "impl Default for Pcg64",
+             "`impl Default for Pcg64`: it is listed as left out", "`impl Eq for Pcg64`: it is listed as added"),
+        ],
+        [
+            ("docs/DIFFERENCES.md", "`at_index`, `key`, `nonce`, `counter`", "`at_index`, `key`, `nonce`",
+             "`ChaChaGroups::counter`: only the library"),
+            ("docs/DIFFERENCES.md", "`impl Default`", "`impl Hash`", "`impl Default for Pcg64`: only 0.7.0",
+             "`impl Hash for Pcg64`: it is listed as of 0.7.0"),
+        ],
+    ],
+    "tests/answers/make.py --check": [
+        [("tests/answers/answers.tsv", "12558987674375533620", "12558987674375533621")],
+        [
+            ("tests/answers/definitions.py", "0xE7037ED1A0B428DB", "0xE7037ED1A0B428DA", "FAILED wyrand "),
+            ("tests/answers/definitions.py", "return EMPTY_LINE, lines.index(b\"\") + 1",
+             "return EMPTY_LINE, lines.index(b\"\")", "FAILED a list: (4, 1)"),
+        ],
+        [("tests/answers/rows.py", "    yield from lots_rows()\n",
+          "    yield from lots_rows()\n    yield from lots_rows()\n", "a row stands twice")],
+    ],
+    "tools/contracts.py --check": [
+        [
+            ("tools/contracts.py", 'one.word in ("fn", "ghost")', 'one.word in ("ghost",)',
+             "number.rt: ensures number { number result ≡ self }"),
+            ("tools/contracts.py", 'item.brace).split("\\n")', 'item.brace).split("\\n")[:4]',
+             "uniform.rt: ensures below { IfOk result (λ number. T.lt number n ≡ true) }"),
+            ("tools/contracts.py", "unfoldable )*pub (?:record |data )?(?P<name>",
+             "unfoldable )*pub (?:data )?(?P<name>", "specs/choices/Uniform.antt: a definition of Requests"),
+            ("tools/contracts.sums", "nanorand/src/laws.rt", "nanorand/src/law.rt",
+             "crates/nanorand/src/law.rt: a signature, a clause"),
+        ],
+        [
+            ("crates/nanorand_core/specs/values/Runs.antt", "pub quota :", "quota :",
+             "Weighted.antt: a definition of quota",
+             "crates/nanorand_core/specs/values/Runs.antt: a signature, a clause"),
+            ("crates/nanorand/src/laws.rt", "PartsAreApart (2 ^ 126)", "PartsAreApart (2 ^ 125)",
+             "crates/nanorand/src/laws.rt: a signature, a clause"),
+            ("crates/nanorand/specs/generators/Parts.antt", "(i * draws)", "(i * draws + 1)",
+             "crates/nanorand/specs/generators/Parts.antt: a signature, a clause"),
+            ("crates/lots_core/src/lib.rt", "pub mod run;", "pub mod run;\npub const FEW: u8 = 1;",
+             "crates/lots_core/src/lib.rt: a signature, a clause"),
+            ("crates/nanorand_users/src/retry.rt", "IfOk result (λ delay. ceiling / 2 ≤ delay)",
+             "IfOk result (λ delay. 0 ≤ delay)", "crates/nanorand_users/src/retry.rt: a signature, a clause"),
+            ("crates/nanorand_tests/src/comparing.rt",
+             "    right: T,\n    note: impl Display + Drop,\n)\n    ensures { IsTrue (T.eq left right) }",
+             "    right: T,\n    note: impl Display + Drop,\n)",
+             "crates/nanorand_tests/src/comparing.rt: a signature, a clause"),
+        ],
+    ],
+    "tools/bodies.py": [
+        [
+            ("rust/lots/src/draws.rs", "number(places);", "", "fn draw_places: body differs"),
+            ("crates/draw_core/src/command.rt", "1000", "999", "const MOST_ITEMS: value differs"),
+            ("rust/nanorand-proved/src/samples.rs", "= count - places.len()", "= count - places.len() - 1",
+             "fn extend_sample: body differs"),
+        ],
+        [("crates/nanorand_core/src/samples.rt", "Ok(())", "Ok(Default::default())")],
+    ],
+    "tools/pictures.py --check": [
+        [
+            ("docs/runs.svg", "first", "second", "docs/runs.svg is not what"),
+            ("docs/delivery.svg", "first", "second", "docs/delivery.svg is not what"),
+            ("crates.txt", "\nlots: lots_core", "\nmore: lots_core\nlots: lots_core", "'more'"),
+            ("tools/layers.py", '"rand::halves", ', "", "'nanorand::rand::halves'"),
+            ("tools/layers.py", '["entropy"]', '["entropy", "entropies"]',
+             "a box holds what is not there: ['nanorand::entropies']"),
+        ],
+        [("docs/ARCHITECTURE.md", "exports --> lots\n", "")],
+        [("crates/nanorand/src/rand/chacha.rt", "use crate::entropy::{EntropyError, system};", "")],
+        [("crates/nanorand/src/rand/keystream.rt", "use crate::parts::", "use crate::entropy::")],
+    ],
+}
 # The commands that write files: the command, each file, and a text in it that is removed before.
 WRITERS = {
     "tests/quotes.py --write": {"README.md": "(pips ≤ 6)"},
@@ -287,15 +403,14 @@ def ran(command, folder, **environment):
 
 
 def stand_in(path, first=""):
-    """Writes a program that records its call and passes. The call BAD prints TEXT and ends with STATUS instead. The
-    program BUSY first takes four seconds of processor time."""
+    """Writes a program that records its call and passes. The shell code in the file ENDS can end a call in another way.
+    The program BUSY first takes four seconds of processor time."""
     path.parent.mkdir(parents=True, exist_ok=True)
     path.write_text(f"#!/bin/sh\n{first}\n" + """
-echo "$0 $*" >>"$CALLS"
+call="$0${*:+ $*}"
+echo "$call" >>"$CALLS"
 case "$0" in *"${BUSY:-none}") (ulimit -t 4; while :; do :; done) ;; esac
-case "$0 $*" in
-    "$BAD" | */"$BAD" | "$BAD " | */"$BAD ") printf '%s\\n' "$TEXT"; exit "$STATUS" ;;
-esac
+. "$ENDS"
 echo '7 passed, 0 failed'
 """)
     path.chmod(0o755)
@@ -317,27 +432,32 @@ def calls_of_whole(room):
     ran(["git", "add", "tracked"], room)
 
 
-def whole(room, bad, text, status, busy="none"):
-    calls = room / "calls"
+def whole(room, ends, busy="none"):
+    """The calls that ./test makes, its lines and its status. `ends` has the calls that end in another way, each with
+    its text and its status."""
+    calls, code = room / "calls", room / "ends"
     calls.write_text("")
-    done = ran(["./test"], room, PATH=f"{room / 'bin'}:{os.environ['PATH']}", CALLS=str(calls), BAD=bad, TEXT=text,
-               STATUS=str(status), BUSY=busy)
-    made = [line.strip().removeprefix(f"{room}/bin/") for line in calls.read_text().splitlines()]
+    cases = [f"'{call}' | */'{call}') echo '{text}'; exit {status} ;;\n" for call, (text, status) in ends.items()]
+    code.write_text(f"case $call in\n{''.join(cases)}esac\n")
+    done = ran(["./test"], room, PATH=f"{room / 'bin'}:{os.environ['PATH']}", CALLS=str(calls), ENDS=str(code),
+               BUSY=busy)
+    made = [line.removeprefix(f"{room}/bin/") for line in calls.read_text().splitlines()]
     return made, done.stdout.splitlines(), done.returncode
 
 
 def sums(counts, room):
     """Each part is called, and the sum counts how it ends."""
     calls_of_whole(room)
-    made, lines, status = whole(room, "none", "", 0, busy="tests/links.py")
+    made, lines, status = whole(room, {}, busy="tests/links.py")
     files = [path.name for path in (ROOT / "tests").iterdir() if path.is_file()]
     names = {f"tests/{name}" for name in files if name not in NO_PARTS}
     # These parts run once for what the kit builds, and once for what cargo builds.
     by_library = {"tests/draw.sh", "tests/lots.sh", "tests/python.sh"}
     parts = names - by_library | {f"{name} {library}" for name in by_library for library in ("cargo", "kit")}
-    others = {"rt ci", "tests/build.sh library page draw lots", "tests/answers/make.py --check",
-              "tools/contracts.py --check", "tools/pictures.py --check", "tools/bodies.py", "tools/mutants.py",
-              "tools/header.py --check", "tools/record.py --check", "web/build.py --check"}
+    pieces = "tests/build.sh library page draw lots"
+    others = {"rt ci", pieces, "tests/answers/make.py --check", "tools/contracts.py --check",
+              "tools/pictures.py --check", "tools/bodies.py", "tools/mutants.py", "tools/header.py --check",
+              "tools/record.py --check", "web/build.py --check"}
     counts.same("the parts that are called", sorted(made), sorted(parts | others))
     # The pieces count as one test, whatever the script that builds them prints.
     all_passed = 7 * (len(made) - 1) + 1
@@ -347,17 +467,20 @@ def sums(counts, room):
     counts.same("the times of ten parts, and that of all, come last", lines[-12:-1], times[-11:])
     counts.same("the longest part", times[-11].split(", ")[-1], "0.1 processor-minutes")
     counts.same("the time of all", bool(re.fullmatch(r"all: 0\.\d minutes, 0\.[1-4] processor-minutes", times[-1])), True)
-    for call in made:
-        # One part is tested with every kind of end, the others with the kind that is easily overlooked.
-        for kind in KINDS if call == "tests/quotes.py" else ["its status alone fails"]:
-            text, ended, (passed, failed) = KINDS[kind]
-            _, lines, status = whole(room, call, text, ended)
-            of_call = 1 if call.startswith("tests/build.sh") else 7
-            passed = 0 if of_call == 1 else passed
-            wanted = f"{all_passed - of_call + passed} passed, {failed} failed", int(failed > 0)
-            counts.same(f"{call}: {kind}", (lines[-1], status), wanted)
-            if "skipped: " in text:
-                counts.same(f"{call}: the skip is named again", lines[-14], "skipped: a compiler")
+    # One part is tested with every kind of end. The others, a third of them at once, are tested with the kind that is
+    # easily overlooked.
+    tested = "tests/quotes.py"
+    left = [call for call in made if call != tested]
+    for kinds in [*({tested: kind} for kind in KINDS),
+                  *(dict.fromkeys(left[place::3], "its status alone fails") for place in range(3))]:
+        _, lines, status = whole(room, {call: KINDS[kind][:2] for call, kind in kinds.items()})
+        ended = [(0, 1) if call == pieces else KINDS[kind][2] for call, kind in kinds.items()]
+        passed, failed = map(sum, zip(*ended))
+        passed += all_passed - sum(1 if call == pieces else 7 for call in kinds)
+        wanted = f"{passed} passed, {failed} failed", int(failed > 0)
+        counts.same(f"the sum with {kinds}", (lines[-1], status), wanted)
+        if kinds == {tested: "a skip"}:
+            counts.same(f"{tested}: the skip is named again", lines[-14], "skipped: a compiler")
 
 
 def integration(counts, room):
@@ -411,7 +534,7 @@ def quick_calls(room, arguments):
     calls = room / "calls"
     calls.write_text("")
     done = ran(["./test", "quick", *arguments], room, PATH=f"{room / 'bin'}:{os.environ['PATH']}", CALLS=str(calls),
-               BAD="none", TEXT="", STATUS="0")
+               ENDS="/dev/null")
     made = re.findall(r"^(?:\w+ (?:check|try)|cargo test).*$", calls.read_text(), re.M)
     return made, done.returncode
 
@@ -433,8 +556,9 @@ echo 'test result: ok. 3 passed; 0 failed'
 """
 
 
-# How many calls apart those are that end badly in one run. Some calls are made only if those just before them succeed.
-APART = 8
+# How many calls apart those are that end badly in one run: calls that fail, and tests that print nothing. Some calls
+# are made only if those just before them succeed.
+APART, SILENT_APART = 8, 2
 
 
 def crate_tested(room, bad, kind):
@@ -468,8 +592,8 @@ def crate(counts, room):
     counts.same("tests/workspace.sh passes", found, [0, 0])
     counts.same("two equal calls of tests/workspace.sh", len(set(made)), len(made))
     tests = [call for call in made if re.match(r"cargo (miri )?test ", call)]
-    for kind, calls in (("it fails", made), ("nothing", tests)):
-        for bad in (calls[place::APART] for place in range(APART)):
+    for kind, calls, apart in (("it fails", made, APART), ("nothing", tests, SILENT_APART)):
+        for bad in (calls[place::apart] for place in range(apart)):
             again, *found = crate_tested(room, bad, kind)
             counts.same(f"tests/workspace.sh: {kind}: {bad}", [set(bad) - set(again), *found], [set(), len(bad), 1])
 
@@ -753,24 +877,38 @@ def copy_of_repository(room, *folders):
 
 
 def changes(counts, room):
-    """Each script passes on the unchanged copy, and fails for each change, with the wanted texts. No file is read in
-    the locale's encoding."""
+    """Each script passes on the unchanged copy, and finds each change. No file is read in the locale's encoding."""
     letters = {"PYTHONWARNDEFAULTENCODING": "1", "PYTHONWARNINGS": "error::EncodingWarning"}
-    for command in sorted({change[0] for change in CHANGES}):
+    for command, groups in CHANGES.items():
         counts.same(f"{command} of no change", ran(command.split(), room, **letters).returncode, 0)
-    for command, name, old, new, *wanted in CHANGES:
-        path = room / name
-        text = path.read_text(encoding="utf-8")
+        for group in groups:
+            changed(counts, room, command, group)
+
+
+def changed(counts, room, command, group):
+    """A command fails for the changes of a group, and prints the texts of each. Only a change that is alone may have
+    none, and no two changes have the same."""
+    before = {name: (room / name).read_text(encoding="utf-8") for name, *_ in group}
+    after = dict(before)
+    for name, old, new, *wanted in group:
         case = f"{command} of {name}, {old!r} changed"
-        counts.same(f"{case}: it stands there", old in text, True)
-        path.write_text(text.replace(old, new, 1), encoding="utf-8")
-        done = ran(command.split(), room)
-        last = done.stdout.splitlines()[-1:] or [""]
-        refused = done.returncode != 0 and not re.search(r"\b0 failed$", last[0])
-        counts.same(case, refused, True)
+        counts.same(f"{case}: it stands there", old in after[name], True)
+        counts.same(f"{case}: it has a text, or is alone", bool(wanted) or len(group) == 1, True)
+        after[name] = after[name].replace(old, new, 1)
+    written(room, after)
+    done = ran(command.split(), room)
+    written(room, before)
+    last = done.stdout.splitlines()[-1:] or [""]
+    refused = done.returncode != 0 and not re.search(r"\b0 failed$", last[0])
+    counts.same(f"{command} of {[(name, old) for name, old, *_ in group]} changed", refused, True)
+    for name, old, _, *wanted in group:
         for words in wanted:
-            counts.same(f"{case}: it says {words}", words in done.stdout, True)
-        path.write_text(text, encoding="utf-8")
+            counts.same(f"{command} of {name}, {old!r} changed: it says {words}", words in done.stdout, True)
+
+
+def written(room, texts):
+    for name, text in texts.items():
+        (room / name).write_text(text, encoding="utf-8")
 
 
 def writers(counts, room):

@@ -85,10 +85,16 @@ def module_of(path, folder):
     return ".".join(part for part in parts if part not in ("lib", "Lib"))
 
 
+@cache
+def items_of(path):
+    """The items of a file of code. The page and the sums both read most files."""
+    return items_at(path)
+
+
 def add_source(book, crate, path):
     """The public items of a file of code, each followed by its members."""
     module = module_of(path, ROOT / "crates" / crate / "src")
-    for item in items_at(path):
+    for item in items_of(path):
         if item.word == "impl" or item.is_public and item.word in (*TYPES, "fn"):
             owner = anchor_of(crate, module, item.name)
             book.add(Entry(owner, title_of(item), item.comment(), signature_of(item), path))

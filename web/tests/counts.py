@@ -4,6 +4,7 @@ import hashlib
 import re
 import subprocess
 import sys
+from functools import lru_cache
 from pathlib import Path
 from typing import Any, List, NamedTuple
 from unicodedata import category
@@ -17,9 +18,13 @@ VERSION = f"{NUMBER // 10000}.{NUMBER // 100 % 100}.{NUMBER % 100}"
 # Braille pattern.
 UNSEEN = ("\0\t\x7f\x85\xa0\xad\u034f\u061c\u115f\u1160\u17b4\u180b\u180e\u2003\u200b\u200d\u200e\u2028\u2029\u202e"
           "\u2060\u2066\u2800\u3000\u3164\ufe00\ufe0f\ufeff\uffa0\ufffc\U0001d173\U000e0041\U000e0100")
-# These and all control and format characters and separators, except the space and the line feed.
-ALL_UNSEEN = sorted({*UNSEEN, *(letter for letter in map(chr, range(sys.maxunicode + 1))
-                                if category(letter) in ("Cc", "Cf", "Zs", "Zl", "Zp"))} - {" ", "\n"})
+
+
+@lru_cache(maxsize=None)
+def all_unseen() -> List[str]:
+    """UNSEEN, and all control and format characters and separators, except the space and the line feed."""
+    return sorted({*UNSEEN, *(letter for letter in map(chr, range(sys.maxunicode + 1))
+                              if category(letter) in ("Cc", "Cf", "Zs", "Zl", "Zp"))} - {" ", "\n"})
 
 
 class Counts:

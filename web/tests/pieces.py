@@ -5,7 +5,7 @@ import unicodedata
 from itertools import product
 from pathlib import Path
 
-from counts import ALL_UNSEEN, Counts
+from counts import Counts, all_unseen
 from glue import build
 from page import Page
 
@@ -33,6 +33,6 @@ def run(counts: Counts, page: Page) -> None:
     tests = "".join(here.with_name(name).read_text(encoding="utf-8") for name in ("writer1.js", "pieces.js"))
     # How long the entrants of a long record are, and how many more are drawn than it names.
     long = page.share(product((1, 43, 44, 50, 200), (1, 5, 10**6)))
-    for name, found, wanted in page.browser.run(code + tests, page.share(ALL_UNSEEN), long):
+    for name, found, wanted in page.browser.run(code + tests, page.share(all_unseen()), long):
         counts.same(name, found, wanted)
     names(counts, page)

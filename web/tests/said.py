@@ -4,7 +4,7 @@ import re
 import time
 from pathlib import Path
 
-from counts import ALL_UNSEEN, VERSION, Counts
+from counts import VERSION, Counts, all_unseen
 from looks import EMPTY
 from page import Page
 
@@ -75,7 +75,8 @@ def hints_on_bytes(counts: Counts, page: Page) -> None:
 
 def letters_that_nobody_sees(counts: Counts, page: Page) -> None:
     """Each invisible character is shown by its bytes, so that no two entrants look alike. Others are unchanged."""
-    wanted = {f"a{letter}b": "a" + "".join(f"\\x{byte:02x}" for byte in letter.encode()) + "b" for letter in ALL_UNSEEN}
+    wanted = {f"a{letter}b": "a" + "".join(f"\\x{byte:02x}" for byte in letter.encode()) + "b"
+              for letter in all_unseen()}
     wanted.update({entrant: entrant for entrant in ("a b", "é", "e\u0301", "漢字", "🎲", "\u2801")})
     page.open_file("".join(f"{entrant}\n" for entrant in wanted).encode())
     page.fill("seed", "all")
