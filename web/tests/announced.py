@@ -358,10 +358,10 @@ def many(counts: Counts, page: Page, program: str, module: bytes) -> None:
 def run(counts: Counts, page: Page, program: str, module: bytes, downloads: Path) -> None:
     page.browser.size(1000, 900)
     whole_way(counts, page, program, module, downloads)
-    made_here(counts, page, program, module)
-    occasions(counts, page)
-    for part in (refused, unreadable, forms):
-        part(counts, page)
-    check_fields(counts, page, program, module)
-    many(counts, page, program, module)
+    with page.unpainted():
+        made_here(counts, page, program, module)
+        for part in (occasions, refused, unreadable, forms):
+            part(counts, page)
+        check_fields(counts, page, program, module)
+        many(counts, page, program, module)
     page.load()

@@ -59,7 +59,7 @@ URL.createObjectURL = (blob) => {
 """
 STALE = ("The announcement that you saved is out of date: the list or a field has changed since. Save or print it "
          "again, and do not publish the one from before.")
-TURNS = 300
+TURNS = 160
 BLANKS = re.compile(r"\[[a-z ,]+\]")
 
 
@@ -303,14 +303,14 @@ def edited(counts: Counts, page: Page) -> None:
 def typed_anew(counts: Counts, page: Page) -> None:
     """A value that changes after a text was edited: the words for it change, whatever is typed in between."""
     kept = "120 throws, 20 throwsters and 2 throws"
-    for preset, field, keys, old, new in (
+    for preset, field, keys, old, new in page.share((
             ("die", "preset_throws", ("2", "", "0", "3", "30"), "20 throws", "30 throws"),
             ("die", "preset_throws", ("x", "1"), "20 throws", "1 throw"),
             ("several", "preset_throws", ("2", "22", "228"), "20 throws", "228 throws"),
             ("several", "preset_numbers", ("", "2", "20"), "6 numbers", "20 numbers"),
             ("lottery", "preset_numbers", ("60", "7"), "6 numbers", "7 numbers"),
             ("drand", "preset_round", ("4", "42"), "round [round]", "round 42"),
-            ("drand", "preset_key", ("$&", "$1 (a.c)"), "public key [public key]", "public key $1 (a.c)")):
+            ("drand", "preset_key", ("$&", "$1 (a.c)"), "public key [public key]", "public key $1 (a.c)"))):
         of_preset(page, preset)
         source, form = seen(page, "source", "form")
         page.put(source=f"Look: {source}; {kept}", form=f"{form} ({old})")
@@ -328,7 +328,7 @@ def typed_anew(counts: Counts, page: Page) -> None:
 def apart(counts: Counts, page: Page) -> None:
     """A source without the words of a value is a warning, and one with another number of throws is not saved."""
     compare = "The source of the seed does not say “{}”. Compare the two."
-    for preset, source, throws, warning, said in (
+    for preset, source, throws, warning, said in page.share((
             ("die", "20 throws", "20", "", None), ("die", "20\n throws", "20", "", None),
             ("die", "20 THROWS: 10 throws by each", "20", "", None), ("die", "1 throw", "1", "", None),
             ("die", "25 throws", "20", "20 throws", 25), ("die", "25 throws, 7 throws", "20", "20 throws", 25),
@@ -339,7 +339,7 @@ def apart(counts: Counts, page: Page) -> None:
             ("several", "6 numbers, 25 throws", "20", "20 throws", 25),
             ("several", "7 numbers, 20 throws", "20", "6 numbers", None),
             ("lottery", "6 numbers, 25 throws", "20", "", None), ("lottery", "some", "20", "6 numbers", None),
-            ("other", "25 throws", "20", "", None)):
+            ("other", "25 throws", "20", "", None))):
         of_preset(page, preset)
         page.put(preset_throws=throws)
         page.put(source=source)
@@ -479,6 +479,8 @@ def heard(counts: Counts, page: Page) -> None:
 def run(counts: Counts, page: Page, downloads: Path) -> None:
     page.browser.size(1000, 900)
     known(counts, page, downloads)
-    for part in (fields, numbers, presets, edited, typed_anew, apart, by_chance, stale, enough, paper, heard):
-        part(counts, page)
+    with page.unpainted():
+        for part in (fields, numbers, presets, edited, typed_anew, apart, by_chance, stale, enough, heard):
+            part(counts, page)
+    paper(counts, page)
     page.load()

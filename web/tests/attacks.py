@@ -12,7 +12,7 @@ from records import FORMAT1, FORMAT2, OLD_TITLE, TITLE, Layout, old_record, with
 NAMES = ["Zoë O'Neil-Fisher", "Ada B. Ito", "Finn A1", "Chidi Ivo", "Ona Aa 7", "Max Co-op", "Sofia Ek", "Noa' Ross"]
 LIST = "".join(f"{name}\n" for name in NAMES)
 SEED = "Zoë's first throw: 4-1-6 3 1"
-NUMBER = 2000
+NUMBER = 1000
 # A colon, and what looks like one.
 COLONS = ":\u02d0\u02f8\u0589\u05c3\u0703\u0704\u16ec\u1803\u1809\u205a\u2236\ua4fd\ua789\ufe13\ufe30\ufe55\uff1a"
 # Letters that mutations put into a record.
@@ -43,6 +43,8 @@ LOOKALIKES: "Dict[str, Callable[[str], str]]" = {
     "another dash": instead("-", "\u2010"),
     "upper and lower case": lambda letter: letter.swapcase() if letter.isalpha() else letter,
 }
+# Each of these is put beside every third letter of a record, and between them they are put beside every letter.
+INVISIBLE = ["a zero width space", "a zero width joiner", "a directional mark", "a soft hyphen", "a byte order mark"]
 # Checks each text with the page's own field and button. The answer: its outcome, and what it says that it checked. The
 # page is hidden meanwhile, as laying it out after each check takes two thirds of the time.
 CHECK_ALL = PARTS + """
@@ -224,9 +226,11 @@ def lookalikes_in_records(counts: Counts, page: Page, layout: Layout, record: st
     texts = {}
     for name, change in LOOKALIKES.items():
         for place, letter in enumerate(record):
+            if name in INVISIBLE and (place + INVISIBLE.index(name)) % 3 != 0:
+                continue
             if letter != "\n" and change(letter) != letter and record[place + 1:place + 2] != "\n":
                 texts[name, place] = record[:place] + change(letter) + record[place + 1:]
-    del texts["a byte order mark", 0]
+    texts.pop(("a byte order mark", 0), None)
     wrong = {}
     shared = dict(page.share(texts.items()))
     for (name, place), (outcome, _) in zip(shared, checked(page, list(shared.values()))):

@@ -561,8 +561,10 @@ def on_paper(counts: Counts, page: Page) -> None:
 
 
 def run(counts: Counts, page: Page, downloads: Path) -> None:
-    for part in (opened_again, opened_early, named_as_saved, previews, headings, kept, encodings, invisible,
-                 marked_letters, more_warnings, in_warnings, closed_files, undone, emptied, in_view, what_was_checked,
-                 on_paper):
+    with page.unpainted():
+        for part in (opened_again, opened_early, named_as_saved, previews, kept, encodings, invisible, marked_letters,
+                     more_warnings, in_warnings, closed_files, undone, emptied, what_was_checked):
+            part(counts, page)
+    for part in (headings, in_view, on_paper):
         part(counts, page)
     origins(counts, page, downloads)

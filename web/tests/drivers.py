@@ -21,8 +21,30 @@ from typing import Any, Dict, List, Optional, Type
 
 # The milliseconds that a script and loading a page may take. Checking a million entrants takes long.
 TIMEOUTS = {"script": 120_000, "pageLoad": 120_000}
-# The pauses between two looks at a page grow up to this many seconds.
-LONGEST_PAUSE = 0.1
+# For how many seconds a script waits at most, which is less than it may take.
+LONGEST_WAIT = 20
+# Looks every 20 milliseconds whether a value of the page is not false, for at most so many seconds. The page itself
+# looks: a command of a driver takes longer.
+WAIT = """
+const [seconds, ...given] = arguments;
+const value = function () {
+%s
+};
+const end = performance.now() + 1000 * seconds;
+return new Promise((done, failed) => {
+  const look = () => {
+    try {
+      const found = value(...given);
+      if (found) done([found]);
+      else if (performance.now() > end) done(null);
+      else setTimeout(look, 20);
+    } catch (error) {
+      failed(error);
+    }
+  };
+  look();
+});
+"""
 # How often a window is set to a size until the page has the wanted one.
 RESIZES = 10
 # The number by which Linux's prctl makes a process the parent of the orphans among its descendants.
@@ -53,13 +75,10 @@ class Browser:
     def wait(self, script: str, *values: Any, seconds: float = 120) -> Any:
         """Runs a script until its value is not false, and returns the value."""
         end = time.monotonic() + seconds
-        pause = LONGEST_PAUSE / 10
         while time.monotonic() < end:
-            value = self.run(script, *values)
-            if value:
-                return value
-            time.sleep(pause)
-            pause = min(1.5 * pause, LONGEST_PAUSE)
+            found = self.run(WAIT % script, min(seconds, LONGEST_WAIT), *values)
+            if found:
+                return found[0]
         raise DriverError(f"waited in vain for: {script}")
 
     def element(self, selector: str) -> str:
@@ -96,6 +115,10 @@ class Browser:
 
     def size(self, width: int, height: int) -> None:
         """Sets the width and the height of the page, in CSS pixels."""
+        raise NotImplementedError
+
+    def paint(self, is_painted: bool) -> None:
+        """Whether the window is painted. A page in a window that is not acts the same, and takes half the time."""
         raise NotImplementedError
 
     def dark(self, is_dark: bool) -> None:
@@ -192,9 +215,24 @@ class Chromium(Browser):
     def _protocol(self, name: str, **values: Any) -> Any:
         return self.command("Protocol", cmd=name, params=values)
 
+    def run(self, script: str, *values: Any) -> Any:
+        """The driver's own command for this takes twice the time."""
+        expression = f"(function () {{{script}\n}}).apply(null, {json.dumps(values)})"
+        answer = self._protocol("Runtime.evaluate", expression=expression, awaitPromise=True, returnByValue=True,
+                                userGesture=True)
+        if "exceptionDetails" in answer:
+            raise DriverError(answer["result"].get("description", str(answer["result"].get("value"))))
+        return answer["result"].get("value")
+
     def size(self, width: int, height: int) -> None:
         self._protocol("Emulation.setDeviceMetricsOverride", width=width, height=height,
                        deviceScaleFactor=1, mobile=False)
+
+    def paint(self, is_painted: bool) -> None:
+        """A minimized window is not painted. The driver's options keep the timers of its page as they are."""
+        window = self._protocol("Browser.getWindowForTarget")["windowId"]
+        state = "normal" if is_painted else "minimized"
+        self._protocol("Browser.setWindowBounds", windowId=window, bounds={"windowState": state})
 
     def dark(self, is_dark: bool) -> None:
         self.media(prefers_color_scheme="dark" if is_dark else "light")
@@ -256,6 +294,17 @@ class Firefox(Browser):
             "browser.shell.checkDefaultBrowser": False, "app.update.enabled": False,
             "datareporting.policy.dataSubmissionEnabled": False, "network.captive-portal-service.enabled": False,
             "network.connectivity-service.enabled": False, "browser.aboutwelcome.enabled": False,
+            "toolkit.telemetry.enabled": False, "toolkit.telemetry.unified": False,
+            "browser.newtabpage.enabled": False, "browser.startup.page": 0,
+            "browser.sessionstore.interval": 1_000_000_000, "browser.safebrowsing.downloads.enabled": False,
+            "browser.safebrowsing.malware.enabled": False, "browser.safebrowsing.phishing.enabled": False,
+            "browser.search.update": False, "extensions.update.enabled": False,
+            "extensions.systemAddon.update.enabled": False, "services.settings.server": "data:,",
+            "browser.region.update.enabled": False,
+            "dom.ipc.processPrelaunch.enabled": False, "dom.ipc.processCount": 1,
+            # The timers of a page that is not painted run as those of another.
+            "dom.min_background_timeout_value": 4, "dom.timeout.enable_budget_timer_throttling": False,
+            "dom.min_background_timeout_value_without_budget_throttling": 4,
             # Otherwise Firefox warns if a list above the visible part changes faster than a person types.
             "layout.css.scroll-anchoring.max-consecutive-adjustments": 0,
         }
@@ -323,6 +372,9 @@ class Firefox(Browser):
             if inner == [width, height]:
                 break
             outer = [one + (wanted - found) * zoom for one, wanted, found in zip(outer, (width, height), inner)]
+
+    def paint(self, is_painted: bool) -> None:
+        self._in_firefox("gBrowser.selectedBrowser.docShellIsActive = arguments[0];", is_painted)
 
     def dark(self, is_dark: bool) -> None:
         self._in_firefox(

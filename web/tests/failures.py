@@ -158,14 +158,17 @@ def each_pair(names: List[str]) -> Iterator[str]:
 
 def one_after_another(counts: Counts, page: Page, task: str, kinds: "Dict[str, Tuple[List[Any], Tuple[Any, ...]]]",
                       ask: "Callable[[], Tuple[Any, ...]]") -> None:
-    """Each answer is shown alone, whatever answer came before with the same fields."""
+    """Each answer is shown alone, whatever answer came before with the same fields. Each browser goes a part of the
+    way."""
     page.load()
     page.browser.run(REFUSED)
     filled(page)
     page.facts()
     page.check("no record")
     before = "nothing"
-    for name in each_pair(list(kinds)):
+    way = list(each_pair(list(kinds)))
+    first, end = (len(way) * number // page.browsers for number in (page.number, page.number + 1))
+    for name in way[max(0, first - 1):end]:
         setting, wanted = kinds[name]
         page.browser.run(*setting)
         counts.same(f"a {task}, {name} after {before}", ask(), wanted)

@@ -30,14 +30,15 @@ NOT_COMPARED = "Warning: The record names an announcement, which was not compare
 READING = """
 return ["announcement-label", "reading-announcement"].map((id) => document.getElementById(id).innerText);
 """
-# The scripts of the page, and what they write for bytes, and read from texts.
+# The characters that the scripts of the page escape, of each `step` ones the one with a number, in ranges; and what
+# they write for bytes, and read from texts.
 SHOW_ALL = """
-const [lists, texts] = arguments;
+const [lists, texts, number, step] = arguments;
 const escaped = [];
-for (let code = 0; code < 0x110000; code += 1) {
+for (let code = number; code < 0x110000; code += step) {
   const isHalf = 0xd800 <= code && code < 0xe000;
   const isEscaped = !isHalf && quotedText(String.fromCodePoint(code)) !== `"${String.fromCodePoint(code)}"`;
-  if (isEscaped && escaped[escaped.length - 1]?.[1] === code - 1) escaped[escaped.length - 1][1] = code;
+  if (isEscaped && escaped[escaped.length - 1]?.[1] === code - step) escaped[escaped.length - 1][1] = code;
   else if (isEscaped) escaped.push([code, code]);
 }
 const read = texts.map((text) => unquoted(text) && Array.from(unquoted(text)));
@@ -80,15 +81,17 @@ def is_right(text: str) -> bool:
 
 
 def values(counts: Counts, page: Page) -> None:
-    """The page writes any bytes as other code does, and reads nothing but what it writes."""
+    """The page writes any bytes as other code does, and reads nothing but what it writes. Each browser has its share of
+    all characters."""
     rng = random.Random(2)
     data = [*ODD, *(letter.encode() for letter in edges()), *(some_bytes(rng) for _ in range(3000))]
     texts = ["", '"', "x", *(edited(rng, quoted(one)) for one in data for _ in range(3))]
     code = '"use strict";\n' + build.joined("quoted", set()) + SHOW_ALL
-    escaped, written, read = page.browser.run(code, [list(one) for one in data], texts)
-    wanted = sorted([(ord("\\"), ord("\\")), *RANGES])
-    counts.same("the escaped characters", [tuple(one) for one in escaped],
-                [(0xE000, last) if first == 0xD800 else (first, last) for first, last in wanted])
+    escaped, written, read = page.browser.run(code, [list(one) for one in data], texts, page.number, page.browsers)
+    found = {one for first, last in escaped for one in range(first, last + 1, page.browsers)}
+    wanted = {one for first, last in [(ord("\\"), ord("\\")), *RANGES] for one in range(first, last + 1)
+              if one % page.browsers == page.number and not 0xD800 <= one < 0xE000}
+    counts.same("the escaped characters", sorted(found ^ wanted)[:20], [])
     for one, text in zip(data, written):
         counts.same(f"{one!r}", text, quoted(one))
     for text, found in zip(texts, read):
@@ -155,6 +158,9 @@ def numbers(counts: Counts, page: Page, program: str, module: str) -> None:
         result = lots(program, "a seed", count, data).output
         counts.same(f"{count} drawn", record, record_of("a seed", data, result, module))
         checks.outcome(counts, page, f"a check of {count}", record, "agrees")
+        # 999 and 1002 are as 1 and 1001.
+        if count in ("999", "1002"):
+            continue
         fewer = re.sub(r"(?m)^[0-9]+: .*\n", "", record, count=1) if count != "0" else ""
         for name, text in (("an entrant", record.replace(END, f'{int(count) + 1}: "x"\n{END}')),
                            ("a number", record.replace(END, f"and 1 more\n{END}")), ("no end", record.replace(END, "")),

@@ -50,6 +50,18 @@ const bytesOf = (length) => Uint8Array.from({ length }, (_, index) => 11 + index
 const seedOf = (length) => new Uint8Array(length).fill(97);
 const digests = [];
 
+/** Whether places are so many different ones below a length. */
+function areDifferent(places, count, length) {
+  const isThere = new Uint8Array(length);
+  let there = 0;
+  for (const place of places) {
+    if (place >= length) return false;
+    there += 1 - isThere[Number(place)];
+    isThere[Number(place)] = 1;
+  }
+  return there === count && places.length === count;
+}
+
 /** Each call as the first one of a module, and on one module after other calls of all sizes. */
 function all(make, lengths) {
   for (const length of lengths) {
@@ -61,13 +73,11 @@ function all(make, lengths) {
     const lines = make.module().count(given.bytes);
     if (lines !== Math.min(length, 1)) wrong.push(`count of ${length} bytes: ${lines}`);
     given.bytes = seedOf(length % 300 + 1);
-    for (const count of [0, 1, length]) {
+    // Where the places are does not depend on how many of them are asked for.
+    for (const count of length < 10_000 ? [0, 1, length] : [length]) {
       if (count > length) continue;
       const places = make.module().draw(given.bytes, length, count);
-      if (places.length !== count || new Set(places).size !== count ||
-          places.some((place) => place >= BigInt(length))) {
-        wrong.push(`draw of ${count} places of ${length}`);
-      }
+      if (!areDifferent(places, count, length)) wrong.push(`draw of ${count} places of ${length}`);
     }
   }
 }

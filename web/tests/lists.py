@@ -298,5 +298,7 @@ def progress(counts: Counts, page: Page) -> None:
 
 
 def run(counts: Counts, page: Page) -> None:
-    for part in (long_pastes, pastes, alike, alike_bytes, tidied, letters_by_name, joined_letters, progress):
-        part(counts, page)
+    long_pastes(counts, page)
+    with page.unpainted():
+        for part in (pastes, alike, alike_bytes, tidied, letters_by_name, joined_letters, progress):
+            part(counts, page)

@@ -3,7 +3,7 @@
 import http.server
 import threading
 from pathlib import Path
-from typing import List
+from typing import List, Optional
 
 from announced import opened
 from announcements import KNOWN
@@ -157,7 +157,7 @@ def winners_and_reserves(page: Page) -> None:
     page.draw()
 
 
-def widths_and_colours(counts: Counts, page: Page, pictures: Path) -> None:
+def widths_and_colours(counts: Counts, page: Page, pictures: Optional[Path]) -> None:
     for state in (before, after, checked, refused, announced_late, drawn_as_announced, winners_and_reserves):
         state(page)
         for dark in (False, True):
@@ -168,7 +168,8 @@ def widths_and_colours(counts: Counts, page: Page, pictures: Path) -> None:
     page.browser.size(1000, 900)
 
 
-def width_and_colour(counts: Counts, page: Page, pictures: Path, width: int, dark: bool, state: str) -> None:
+def width_and_colour(counts: Counts, page: Page, pictures: Optional[Path], width: int, dark: bool,
+                     state: str) -> None:
     page.browser.size(width, 900)
     name = f"{state} {width} {'dark' if dark else 'light'}"
     found = page.browser.run("return [innerWidth, document.documentElement.scrollWidth];")
@@ -180,7 +181,8 @@ def width_and_colour(counts: Counts, page: Page, pictures: Path, width: int, dar
     counts.same(f"texts without a colour of their own, {name}", page.browser.run(COLOURED), [])
     colour = page.browser.run("return getComputedStyle(document.body).backgroundColor;")
     counts.same(f"background, {name}", colour, "rgb(15, 19, 24)" if dark else "rgb(246, 247, 249)")
-    page.browser.picture(pictures / f"{page.browser.name.lower()}-{name.replace(' ', '-')}.png")
+    if pictures is not None:
+        page.browser.picture(pictures / f"{page.browser.name.lower()}-{name.replace(' ', '-')}.png")
 
 
 def names(counts: Counts, page: Page) -> None:
@@ -354,7 +356,7 @@ def no_request(counts: Counts, page: Page) -> None:
     page.browser.errors()
 
 
-def run(counts: Counts, page: Page, pictures: Path) -> None:
+def run(counts: Counts, page: Page, pictures: Optional[Path]) -> None:
     widths_and_colours(counts, page, pictures)
     names(counts, page)
     keyboard(counts, page)

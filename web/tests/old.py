@@ -52,7 +52,7 @@ def with_module32(counts: Counts, page: Page, program: str, digests: Dict[int, s
     page.load()
     maker = page.browser.run('return document.getElementById("maker").textContent;')
     counts.same("the module for 32-bit memory", maker, MAKER.format(digests[32]))
-    draws.random_draws(counts, page, program, digests[32], 40)
+    draws.random_draws(counts, page, program, digests[32], 30)
     draws.sizes(counts, page, program, digests[32])
     record = checks.first_record(page)
     checks.outcome(counts, page, "a record of this module", record, "agrees")
@@ -76,24 +76,20 @@ def empty_copy(address: str, folder: Path) -> str:
 
 
 def run(counts: Counts, page: Page, program: str, digests: Dict[int, str]) -> None:
-    """Runs in browsers of the same kind as the page's."""
+    """What a browser loses, it has lost for good: another one of the same kind as the page's loses it."""
     address, folder = page.address, page.folder
     strict, empty = strict_copy(address, folder), empty_copy(address, folder)
 
-    def without_any(page: Page) -> None:
-        without_modules(counts, Page(page.browser, strict, folder), "no module is allowed")
-        without_modules(counts, Page(page.browser, empty, folder), "empty modules", FAILED)
-
-    tries = {
-        "": without_any,
-        "WebAssembly": lambda page: without_modules(counts, page, "no WebAssembly"),
-        "memory64": lambda page: with_module32(counts, page, program, digests),
-    }
-    for lost, part in tries.items():
-        browser = start(type(page.browser), folder)
-        try:
-            if lost:
-                browser.lose(lost)
-            part(Page(browser, address, folder, page.number, page.browsers))
-        finally:
-            browser.close()
+    without_modules(counts, Page(page.browser, strict, folder), "no module is allowed")
+    without_modules(counts, Page(page.browser, empty, folder), "empty modules", FAILED)
+    page.browser.errors()
+    browser = start(type(page.browser), folder)
+    try:
+        old_page = Page(browser, address, folder, page.number, page.browsers)
+        browser.lose("memory64")
+        with old_page.unpainted():
+            with_module32(counts, old_page, program, digests)
+        browser.lose("WebAssembly")
+        without_modules(counts, old_page, "no WebAssembly")
+    finally:
+        browser.close()

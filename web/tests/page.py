@@ -4,8 +4,9 @@ What a user does and then sees is one script each: a command of a driver takes l
 """
 
 import random
+from contextlib import contextmanager
 from pathlib import Path
-from typing import Any, Dict, Iterable, List, Optional, TypeVar
+from typing import Any, Dict, Iterable, Iterator, List, Optional, TypeVar
 
 from drivers import Browser
 
@@ -73,9 +74,8 @@ const texts = () => ({
 """
 
 PASTE = PARTS + """
-if (!part("opened").hidden) return false;
+if (!part("opened").hidden) part("close-file").click();
 set("list-text", arguments[0]);
-return true;
 """
 
 FACTS = TEXTS + """
@@ -126,14 +126,22 @@ class Page:
         self.browser.wait("""return !document.getElementById("draw").disabled ||
             !document.getElementById("page-error").hidden;""")
 
+    @contextmanager
+    def unpainted(self) -> Iterator[None]:
+        """For tests that do not look at the window, and do not press keys. They then take half the time."""
+        self.browser.paint(False)
+        try:
+            yield
+        finally:
+            self.browser.paint(True)
+
     def shown(self) -> Dict[str, Any]:
         """All texts of the page. Hidden parts are empty texts."""
         return self.browser.run(TEXTS + "return texts();")
 
     def paste(self, text: str) -> None:
-        if not self.browser.run(PASTE, text):
-            self.browser.click("#close-file")
-            self.put(list_text=text)
+        """Pastes a list, in place of a file that is open."""
+        self.browser.run(PASTE, text)
 
     def open_file(self, data: bytes) -> None:
         self.files += 1

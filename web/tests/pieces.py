@@ -2,13 +2,14 @@
 characters, spaces, names, encodings, headings, lookalikes."""
 
 import unicodedata
-from itertools import product
 from pathlib import Path
 
 from counts import Counts, all_unseen
 from glue import build
 from page import Page
 
+# More characters than the records have in which each one is changed.
+MOST_PLACES = 1000
 SCRIPTS = ("record", "warnings", "questions", "module", "client", "check", "tidy", "list", "form", "enough")
 # Characters for which Unicode has no name, or one that is less clear.
 NAMES = {
@@ -32,7 +33,9 @@ def run(counts: Counts, page: Page) -> None:
     here = Path(__file__)
     tests = "".join(here.with_name(name).read_text(encoding="utf-8") for name in ("writer1.js", "pieces.js"))
     # How long the entrants of a long record are, and how many more are drawn than it names.
-    long = page.share(product((1, 43, 44, 50, 200), (1, 5, 10**6)))
-    for name, found, wanted in page.browser.run(code + tests, page.share(all_unseen()), long):
+    long = page.share(((1, 1), (43, 1), (44, 1), (50, 1), (200, 1), (44, 10**6)))
+    most = f"const MOST_PLACES = {MOST_PLACES};\n"
+    for name, found, wanted in page.browser.run(code + most + tests, page.share(all_unseen()), long,
+                                                page.share(range(MOST_PLACES))):
         counts.same(name, found, wanted)
     names(counts, page)

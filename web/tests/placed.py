@@ -475,8 +475,9 @@ def commands(counts: Counts, page: Page, texts: Dict[str, bytes], program: str) 
 def run(counts: Counts, page: Page, program: str, module: bytes) -> None:
     page.browser.size(1000, 900)
     texts = texts_of(program, module)
-    for part in (together, two_of_a_kind, together_for_a_draw, opened, fast, three_at_once, lost, below_a_mail,
-                 words_of_titles, announced_in_a_mail, on_a_field, mails, uncompared, published, marks):
-        part(counts, page, texts)
-    commands(counts, page, texts, program)
+    with page.unpainted():
+        for part in (together, two_of_a_kind, together_for_a_draw, opened, fast, three_at_once, lost, below_a_mail,
+                     words_of_titles, announced_in_a_mail, on_a_field, mails, uncompared, published, marks):
+            part(counts, page, texts)
+        commands(counts, page, texts, program)
     page.load()

@@ -5,9 +5,9 @@
 
 For example, web/tests/run.py crates/lots/out/lots chromium firefox. LOTS is the program with which the page is
 compared. Each BROWSER is chromium or firefox; all run side by side. Of many cases of one kind, such as random draws,
-each browser runs its share. The parts are answers, glue, pieces, draws, sizes, refusals, checks, formats,
-announcements, announcing, announced, shell, placed, attacks, failures, said, heard, late, steps, lists, clerk, looks,
-files, copies, long and old. The last line is N passed, M failed.
+each browser runs its share. With --pictures, the part looks saves what the window shows. The parts are answers, glue,
+pieces, draws, sizes, refusals, checks, formats, announcements, announcing, announced, shell, placed, attacks, failures,
+said, heard, late, steps, lists, clerk, looks, files, copies, long and old. The last line is N passed, M failed.
 """
 
 import argparse
@@ -15,7 +15,9 @@ import sys
 import tempfile
 import traceback
 from concurrent.futures import ThreadPoolExecutor
+from contextlib import nullcontext
 from pathlib import Path
+from typing import Optional
 
 import announced
 import announcements
@@ -45,9 +47,12 @@ from page import Page
 
 OUT = Path(__file__).resolve().parent.parent / "dist"
 BROWSERS = {"chromium": Chromium, "firefox": Firefox}
+# The parts that do not look at the window, and do not press keys.
+UNPAINTED = ("answers", "glue", "pieces", "draws", "sizes", "refusals", "checks", "formats", "announcements", "attacks",
+             "failures", "late", "long")
 
 
-def in_browser(kind: type, number: int, browsers: int, program: str, pictures: Path, only: str) -> Counts:
+def in_browser(kind: type, number: int, browsers: int, program: str, pictures: Optional[Path], only: str) -> Counts:
     """Runs the parts in a browser of its own, which has this number among so many browsers."""
     counts = Counts()
     address = (OUT / "nanorand.html").as_uri()
@@ -69,7 +74,7 @@ def in_browser(kind: type, number: int, browsers: int, program: str, pictures: P
             "answers": lambda: answers.run(counts, page, modules),
             "glue": lambda: glue.run(counts, page, modules),
             "pieces": lambda: pieces.run(counts, page),
-            "draws": lambda: draws.random_draws(counts, page, program, module, 200),
+            "draws": lambda: draws.random_draws(counts, page, program, module, 100),
             "sizes": lambda: draws.sizes(counts, page, program, module),
             "refusals": lambda: refusals.run(counts, page, program),
             "checks": lambda: checks.run(counts, page, program, digests),
@@ -99,7 +104,8 @@ def in_browser(kind: type, number: int, browsers: int, program: str, pictures: P
                     counts.place = f"{browser.name} {browser.version}, {part}"
                     page.load()
                     try:
-                        run()
+                        with page.unpainted() if part in UNPAINTED else nullcontext():
+                            run()
                     except Exception:
                         counts.case(part, traceback.format_exc()[-600:])
                     counts.same("no error of the console", browser.errors(), [])
@@ -117,11 +123,11 @@ def main() -> int:
     wanted = reader.parse_args()
     program = str(Path(wanted.program).resolve())
     count_orphans()
-    with tempfile.TemporaryDirectory() as folder, ThreadPoolExecutor() as pool:
-        pictures = wanted.pictures or Path(folder)
-        pictures.mkdir(exist_ok=True)
+    if wanted.pictures:
+        wanted.pictures.mkdir(exist_ok=True)
+    with ThreadPoolExecutor() as pool:
         browsers = len(wanted.browsers)
-        begun = [pool.submit(in_browser, BROWSERS[browser], number, browsers, program, pictures, wanted.only)
+        begun = [pool.submit(in_browser, BROWSERS[browser], number, browsers, program, wanted.pictures, wanted.only)
                  for number, browser in enumerate(wanted.browsers)]
         found = [browser.result() for browser in begun]
     passed, failed = sum(counts.passed for counts in found), sum(counts.failed for counts in found)

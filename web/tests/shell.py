@@ -13,7 +13,7 @@ from formats import ODD, edges, is_text
 from page import Page
 from records import record_of, without_module
 
-PLANS = 80
+PLANS = 40
 RECORDS = 40
 AGREES = b"the record agrees with the list, and names the announcement\n"
 # A quotation mark, a backslash, what a shell would change, letters that look like others, joined emoji, a long text.
@@ -122,7 +122,8 @@ def run(counts: Counts, page: Page, program: str, module: bytes) -> None:
     page.browser.size(1000, 900)
     counts.same("the fields are in the order of the program's words", list(FIELDS), [
         "occasion", "winners", "reserves", "source", "form", "example", "time"])
-    plans(counts, page, program, sha256(module))
-    read_alike(counts, page, program)
-    by_program(counts, page, program, module)
+    with page.unpainted():
+        plans(counts, page, program, sha256(module))
+        read_alike(counts, page, program)
+        by_program(counts, page, program, module)
     page.load()

@@ -368,6 +368,9 @@ def by_keyboard(counts: Counts, page: Page) -> None:
 
 
 def run(counts: Counts, page: Page) -> None:
-    for part in (tabs, winners_first, numbers_of_winners, details, enter_draws, files_dropped, records_dropped,
-                 records_beside_the_field, paper, paper_of_old_browsers, long_results, by_keyboard):
+    for part in (tabs, winners_first, numbers_of_winners, details, enter_draws, paper, paper_of_old_browsers,
+                 long_results, by_keyboard):
         part(counts, page)
+    with page.unpainted():
+        for part in (files_dropped, records_dropped, records_beside_the_field):
+            part(counts, page)
