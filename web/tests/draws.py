@@ -126,9 +126,9 @@ def long_entrants(counts: Counts, page: Page, program: str, module: str) -> None
         } catch (error) {
           return error.name;
         }""", long), "RangeError")
-    for name, entrant in (("letters", b"a" * long), ("wide letters", "\u6f22".encode() * long),
-                          ("backslashes", b"\\" * long), ("no UTF-8", b"\xff" * long),
-                          ("any bytes", bytes(set(range(256)) - {10}) * (long // 255 + 1))):
+    kinds = (("letters", b"a" * long), ("wide letters", "\u6f22".encode() * long), ("backslashes", b"\\" * long),
+             ("no UTF-8", b"\xff" * long), ("any bytes", bytes(set(range(256)) - {10}) * (long // 255 + 1)))
+    for name, entrant in page.share(kinds):
         data = entrant + b"\nb\n"
         page.open_file(data)
         page.fill("seed", "all")

@@ -3,12 +3,9 @@
 mod derives;
 mod entropy;
 mod forks;
-mod ranges;
+mod reads;
 mod refusals;
 mod replays;
-mod requests;
 mod reservoirs;
 mod samples;
-mod seeds;
-mod shuffles;
 mod texts;

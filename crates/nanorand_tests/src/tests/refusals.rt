@@ -20,9 +20,25 @@ fn reads<G: Rng<OUTPUT>, const OUTPUT: usize, A: Allocator>(
     equal(rt, (out.as_slice(), rng.buffered()), (items, buffered));
 }
 
-// A buffer with the bytes 5, 6 and 7, and a vector of `count` sevens without room for them. The
-// first allocation fails: neither changes, and the next call succeeds. There is no second
-// allocation.
+// The bytes 5, 6 and 7 of a buffer are read to the end of a vector of sevens. The first allocation
+// fails: neither changes, and the next call succeeds.
+fn reads_after_a_refusal<A: Allocator>(
+    rt: &impl Abort,
+    out: &mut Vec<u8, A>,
+    sevens: &[u8],
+    all: &[u8],
+) {
+    let room = out.capacity();
+    let mut rng = BufferedRng::new(Steps::new());
+    let _ = buffered_bytes::<5, _, 8>(&mut rng);
+    reads(rt, &mut rng, out, Err(AllocError), (sevens, 3));
+    equal(rt, out.capacity(), room);
+    reads(rt, &mut rng, out, Ok(3), (all, 0));
+    // Nothing is left to append.
+    reads(rt, &mut rng, out, Ok(0), (all, 0));
+}
+
+// The vector has `count` sevens, and no room for more. There is no second allocation.
 fn is_refused_once(rt: &(impl Abort + AllocGlobal), count: usize) -> Result<(), AllocError> {
     let sevens = vec![in rt.alloc(); 7; count]?;
     let mut all = sevens.clone()?;
@@ -30,14 +46,7 @@ fn is_refused_once(rt: &(impl Abort + AllocGlobal), count: usize) -> Result<(), 
     let heap = Refusing::nth(rt.alloc(), u64::from(count > 0).wrapping_add(1));
     let mut out = Vec::with_capacity(&heap, count)?;
     out.extend_from_slice(&sevens)?;
-    let room = out.capacity();
-    let mut rng = BufferedRng::new(Steps::new());
-    let _ = buffered_bytes::<5, _, 8>(&mut rng);
-    reads(rt, &mut rng, &mut out, Err(AllocError), (&sevens, 3));
-    equal(rt, out.capacity(), room);
-    reads(rt, &mut rng, &mut out, Ok(3), (&all, 0));
-    // Nothing is left to append.
-    reads(rt, &mut rng, &mut out, Ok(0), (&all, 0));
+    reads_after_a_refusal(rt, &mut out, &sevens, &all);
     Ok(())
 }
 

@@ -53,6 +53,20 @@ fn every_size_and_byte() {
     }
 }
 
+#[test]
+fn words_of_64_bits() {
+    for (size, word, number) in [
+        ((1 << 63) + 1, 0, None),
+        ((1 << 63) + 1, 1, Some(0)),
+        ((1 << 63) + 1, 2, None),
+        ((1 << 63) + 1, 3, Some(1)),
+        ((1 << 63) + 1, u64::MAX, Some(1 << 63)),
+        (1 << 64, u64::MAX, Some(u64::MAX)),
+    ] {
+        assert_eq!(pick_word(size, 64, word), number, "{word} of {size}");
+    }
+}
+
 /// Asserts the results of a range for the least word and for the greatest.
 fn gives<T: RandomRange<Constant, 8> + Copy + PartialEq + Debug>(
     low: Bound<T>,

@@ -10,6 +10,25 @@ const LETTERS: [char; 3] = ['a', 'b', 'c'];
 
 const EXHAUSTED: Result<(), RangeError> = Err(RangeError::Exhausted);
 
+/// Each partner comes from all places.
+#[test]
+fn a_full_shuffle() {
+    let mut steps = Steps::new();
+    let mut letters = LETTERS;
+    assert_eq!(shuffle_full(&mut steps, &mut letters), Ok(()));
+    assert_eq!((letters, steps.drawn()), (['c', 'a', 'b'], 3));
+
+    let mut script = Script::new(&[0x80, 1, 255]);
+    let mut letters = LETTERS;
+    assert_eq!(shuffle_full(&mut script, &mut letters), Ok(()));
+    assert_eq!((letters, script.drawn()), (LETTERS, 3));
+
+    let mut script = Script::new(&[255; 4]);
+    let mut letters = ['a', 'b', 'c', 'd'];
+    assert_eq!(shuffle_full(&mut script, &mut letters), Ok(()));
+    assert_eq!((letters, script.drawn()), (['d', 'a', 'b', 'c'], 4));
+}
+
 #[test]
 fn refused_by_zeros() {
     let mut letters = LETTERS;
