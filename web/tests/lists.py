@@ -290,7 +290,7 @@ def progress(counts: Counts, page: Page) -> None:
         };
         new MutationObserver(shown).observe(text.parentElement, { attributes: true });""")
     page.fill("seed", "all")
-    page.open_file(b"".join(b"entrant %d\n" % number for number in range(1_500_000)))
+    page.open_file(b"".join(b"entrant %d\n" % number for number in range(600_000)))
     page.draw()
     waited = page.browser.run("return window.waited;")
     counts.case("progress", "" if waited and min(waited) >= 450 else str(waited))
