@@ -144,7 +144,7 @@ def compare_calls(report, tree):
 
 def methods_of(tree, file, owner):
     """The names of the methods of a trait or an implementation in a Rust file."""
-    names = (entry.name.partition(f"{owner}: fn ") for entry in rust_entries(tree.get(file, ""), file))
+    names = (entry.name.partition(f"{owner}: fn ") for entry in entries_in(tree.get(file, ""), file))
     return {method for before, found, method in names if found and not before}
 
 
@@ -167,9 +167,10 @@ def compare_module(report, tree, package, module, names):
         return
     checks = tuple((row.get("clause"), row.get("rust")) for row in report.listed.of("precondition"))
     entries = [entry for name in names for entry in proved_entries(tree[name], name, package, module, checks)]
+    required = {clause for entry in entries for clause in entry.requires}
     for row in report.listed.of("precondition"):
-        row.matches |= any(row.get("clause") in entry.requires for entry in entries)
-    proved, rust = by_name(report, entries), by_name(report, rust_entries(tree[file], file))
+        row.matches |= row.get("clause") in required
+    proved, rust = by_name(report, entries), by_name(report, entries_in(tree[file], file))
     report.methods |= {name.rpartition(" ")[2] for name in proved if name.startswith("trait ") or " for " in name}
     report.modules[file] = names
     if report.listed.find("departure", file, WHOLE_FILE):
@@ -192,18 +193,23 @@ def whole(entries):
 
 
 @functools.lru_cache(maxsize=None)
-def proved_entries(text, name, package, module, checks):
-    """The entries that Rust should have for a proved file."""
-    texts = {clause: joined(normal_body(tokens_of(rust))) for clause, rust in checks}
-    path = "::".join(["crate", *module.split("/")])
-    crates = {"nanorand": "nanorand_proved", **dict.fromkeys(package.proved, "crate")}
-    setting = Setting(path, crates, package.is_without_std(module), texts)
-    return in_rust(entries_of(file_of(text, name)), setting)
+def statements(checks):
+    """The text of the statement that checks each clause."""
+    return {clause: joined(normal_body(tokens_of(rust))) for clause, rust in checks}
 
 
 @functools.lru_cache(maxsize=None)
-def rust_entries(text, name):
-    """The entries of a Rust file."""
+def proved_entries(text, name, package, module, checks):
+    """The entries that Rust should have for a proved file."""
+    path = "::".join(["crate", *module.split("/")])
+    crates = {"nanorand": "nanorand_proved", **dict.fromkeys(package.proved, "crate")}
+    setting = Setting(path, crates, package.is_without_std(module), statements(checks))
+    return in_rust(entries_in(text, name), setting)
+
+
+@functools.lru_cache(maxsize=None)
+def entries_in(text, name):
+    """The entries of a file as they stand there."""
     return entries_of(file_of(text, name))
 
 
@@ -247,6 +253,8 @@ def without_const(proved, rust):
 def first_difference(proved, rust):
     """The description of the first difference of two entries, or None."""
     for facet in dict.fromkeys((*proved.facets, *rust.facets)):
+        if rust.facets.get(facet) == proved.facets.get(facet):
+            continue
         here, there = (" , ".join(entry.facets.get(facet, ())).split(" ") for entry in (rust, proved))
         if here != there:
             differing = (place for place, (a, b) in enumerate(zip(here, there)) if a != b)
@@ -288,7 +296,7 @@ def check_file(report, tree, name):
         report.by_hand.add(name)
     elif report.listed.find("hand_written", name, WHOLE_FILE):
         try:
-            entries = by_name(report, rust_entries(tree[name], name))
+            entries = by_name(report, entries_in(tree[name], name))
         except Unreadable as unreadable:
             report.differences.append(str(unreadable))
             return

@@ -9,7 +9,7 @@ import json
 import re
 import tomllib
 from dataclasses import dataclass
-from functools import cached_property
+from functools import cache, cached_property
 
 # The item of a row for a whole file.
 WHOLE_FILE = ""
@@ -49,6 +49,13 @@ def toml_of(value):
     return json.dumps(value, ensure_ascii=False)
 
 
+@cache
+def row_of(block):
+    """The kind and the values of a row."""
+    [(kind, [values])] = tomllib.loads(block).items()
+    return kind, values
+
+
 @dataclass
 class Listed:
     """The list: the comment at its head, and its rows."""
@@ -61,8 +68,8 @@ class Listed:
         head, *blocks = re.split(r"(?m)^(?=\[\[)", text)
         rows, line = [], 1 + head.count("\n")
         for block in blocks:
-            [(kind, [values])] = tomllib.loads(block).items()
-            rows.append(Row(kind, line, values))
+            kind, values = row_of(block)
+            rows.append(Row(kind, line, dict(values)))
             line += block.count("\n")
         return cls(head, rows)
 

@@ -51,9 +51,14 @@ class Entry:
     facets: dict
     requires: tuple = ()
 
-    def text(self):
-        """All facets as one text, for the digest."""
+    @functools.cached_property
+    def whole(self):
+        """All facets as one text."""
         return "\n".join(f"{name}: {' , '.join(parts)}" for name, parts in sorted(self.facets.items()))
+
+    def text(self):
+        """The same, for the digest."""
+        return self.whole
 
 
 def digest(text):
