@@ -119,19 +119,6 @@ fn ends(rt: HostRuntime) -> Result<(), Fail> {
     Ok(())
 }
 
-// The error names the first argument that cannot be read, no matter how many arguments precede it.
-#[test]
-fn a_bad_word_behind_many(rt: HostRuntime) -> Result<(), Fail> {
-    for good in [0, 7, 8, 9, 60, 251, 252, 1000] {
-        let requests = "u8 ".repeat(rt.alloc(), good)?;
-        let line = format!(in rt.alloc(); "wyrand d29b42879be2895f plain 0 {requests}u9 u9")?;
-        let text = format!(in rt.alloc(); "draw: bad word {}\n", good.wrapping_add(5))?;
-        let program = draw_of(rt.alloc(), line.as_str())?;
-        check_end(&rt, rt.alloc(), &program, refused(2, text.as_str()));
-    }
-    Ok(())
-}
-
 #[test]
 fn failures_of_writers(rt: HostRuntime) -> Result<(), Fail> {
     let program = draw_of(rt.alloc(), LONGEST)?;

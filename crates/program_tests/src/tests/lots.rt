@@ -1,8 +1,7 @@
-//! The program `lots`, and the draw of places.
+//! The program `lots`: how it ends if a read, a write or an allocation fails; and the draw of places.
+//! What it writes for other arguments and lists is tested in Rust, and by `tests/lots.sh`.
 
-use super::programs::{
-    Program, check_end, check_flush, check_memory, check_writes, refused, strings, writes,
-};
+use super::programs::{Program, check_flush, check_memory, check_writes, strings};
 use super::readers::Feed;
 use super::writers::Pieces;
 use crate::comparing::{equal, equal_at, holds};
@@ -45,54 +44,6 @@ const NAMES: &str =
 // All entrants of the list, in the order in which they are drawn.
 const DRAWN: &str =
     "Katherine\nJun\nChidi\nFarid\nGrace\nAda\nLise\nDmitri\nElif\nBarbara\nInes\nHedy\n";
-
-// Arguments, separated by commas, a list, the status, and the text that is written, or the message
-// of the first error that is found. `/` ends a line.
-const ENDS: &str = "\
-4 1 6 3 3 2 5 6 1 4 2 6 5 3 1 1 6 2 4 5,all> \
-Ada/Barbara/Chidi/Dmitri/Elif/Farid/Grace/Hedy/Ines/Jun/Katherine/Lise/> \
-0> Katherine/Jun/Chidi/Farid/Grace/Ada/Lise/Dmitri/Elif/Barbara/Ines/Hedy/\n\
-4 1 6 3 3 2 5 6 1 4 2 6 5 3 1 1 6 2 4 5,1> \
-Ada/Barbara/Chidi/Dmitri/Elif/Farid/Grace/Hedy/Ines/Jun/Katherine/Lise/> 0> Katherine/\n\
-4 1 6 3 3 2 5 6 1 4 2 6 5 3 1 1 6 2 4 5,0003> \
-Ada/Barbara/Chidi/Dmitri/Elif/Farid/Grace/Hedy/Ines/Jun/Katherine/Lise/> 0> Katherine/Jun/Chidi/\n\
-4 1 6 3 3 2 5 6 1 4 2 6 5 3 1 1 6 2 4 5,0> Ada/Barbara/> 0> \n\
-seed,all> > 0> \n\
-seed,3> Ada/Ada/Lise> 0> Ada/Lise/Ada/\n\
---help,all> Zoë\r/> 0> Zoë\r/\n\
-抽選,1> \0 \t\u{85}> 0> \0 \t\u{85}/\n\
-seed> /> 2> lots: usage: lots SEED COUNT|all < entrants/\n\
-seed,all,3> /> 2> lots: usage: lots SEED COUNT|all < entrants/\n\
-,9> /> 2> lots: usage: lots SEED COUNT|all < entrants/\n\
-seed,+1> /> 2> lots: usage: lots SEED COUNT|all < entrants/\n\
-seed,18446744073709551616> Ada/> 2> lots: usage: lots SEED COUNT|all < entrants/\n\
-seed,9> Ada//> 4> lots: line 2 is empty/\n\
-seed,0> /> 4> lots: line 1 is empty/\n\
-seed,1> > 3> lots: 0 entrants, 1 asked for/\n\
-seed,013> 1/2/3/4/5/6/7/8/9/10/11/12/> 3> lots: 12 entrants, 13 asked for/\n\
-seed,18446744073709551615> Ada> 3> lots: 1 entrants, 18446744073709551615 asked for/";
-
-#[test]
-fn ends(rt: HostRuntime) -> Result<(), Fail> {
-    let mut cases = 0u64;
-    for case in ENDS.lines() {
-        let (arguments, rest) = case.split_once("> ").unwrap_or_default();
-        let (list, rest) = rest.split_once("> ").unwrap_or_default();
-        let (status, text) = rest.split_once("> ").unwrap_or_default();
-        let arguments = arguments.split(',').collect::<Vec<&str>>(rt.alloc())?;
-        let list = list.replace(rt.alloc(), "/", "\n")?;
-        let text = text.replace(rt.alloc(), "/", "\n")?;
-        let end = match status.parse::<u8>() {
-            Ok(0) => writes(text.as_str()),
-            status => refused(status.unwrap_or_default(), text.as_str()),
-        };
-        let program = lots_of(rt.alloc(), arguments.as_slice(), list.as_str())?;
-        check_end(&rt, rt.alloc(), &program, end);
-        cases = cases.wrapping_add(1);
-    }
-    equal(&rt, cases, 18);
-    Ok(())
-}
 
 #[test]
 fn failures_of_writers(rt: HostRuntime) -> Result<(), Fail> {
