@@ -8,4 +8,5 @@ mod refusals;
 mod replays;
 mod reservoirs;
 mod samples;
+mod streams;
 mod texts;

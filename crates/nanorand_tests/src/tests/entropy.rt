@@ -1,12 +1,11 @@
 //! The entropy readers, and generators that are made from one, with a reader whose bytes no
 //! contract states.
 
-use crate::comparing::{debug_is, equal, equal_at};
+use crate::comparing::{equal, equal_at};
 use nanorand::entropy::{EntropyError, backup, rdseed, system};
 use nanorand::{ChaCha20, Pcg64, WyRand};
 use std::io::ErrorKind;
 use std::process::Abort;
-use std::test::Fail;
 use test_support::{ERROR_KINDS, Pieces};
 
 const KEY: [u8; 32] = [
@@ -51,22 +50,21 @@ fn make(made: Made, source: &mut Pieces<'_>) -> Result<(), EntropyError> {
 // Exactly the needed bytes are taken, in pieces of any size. For ChaCha, the key comes first and
 // then the nonce.
 #[test]
-fn the_next_bytes(rt: HostRuntime) -> Result<(), Fail> {
+fn the_next_bytes(rt: HostRuntime) {
     for piece in [1, 7, 50] {
         let mut source = Pieces::of(&BYTES, piece);
-        let wyrand = WyRand::new(&mut source).or(Err("no generator"))?;
-        debug_is(&rt, &wyrand, "WyRand { seed: 0x2a }")?;
+        let wyrand = WyRand::new(&mut source);
+        equal_at(&rt, wyrand, Ok(WyRand::new_seed(0x2a)), piece);
         equal_at(&rt, source.left(), 33, piece);
         let mut source = Pieces::of(&BYTES, piece);
-        let pcg64 = Pcg64::new(&mut source).or(Err("no generator"))?;
-        debug_is(&rt, &pcg64, "Pcg64 { seed: 0x2a, state: 0x0, inc: 0x0 }")?;
+        let pcg64 = Pcg64::new(&mut source);
+        equal_at(&rt, pcg64, Ok(Pcg64::new_seed(0x2a)), piece);
         equal_at(&rt, source.left(), 25, piece);
         let mut source = Pieces::of(&BYTES, piece);
-        let chacha = ChaCha20::new(&mut source).or(Err("no generator"))?;
-        equal_at(&rt, chacha == ChaCha20::new_key(KEY, NONCE), true, piece);
+        let chacha = ChaCha20::new(&mut source);
+        equal_at(&rt, chacha, Ok(ChaCha20::new_key(KEY, NONCE)), piece);
         equal_at(&rt, source.left(), 1, piece);
     }
-    Ok(())
 }
 
 // The call has this outcome after this many reads.

@@ -17,7 +17,8 @@ fn reads<G: Rng<OUTPUT>, const OUTPUT: usize, A: Allocator>(
     (items, buffered): (&[u8], usize),
 ) {
     equal(rt, rng.read_to_end(out), outcome);
-    equal(rt, (out.as_slice(), rng.buffered()), (items, buffered));
+    equal(rt, out.as_slice(), items);
+    equal(rt, rng.buffered(), buffered);
 }
 
 // The bytes 5, 6 and 7 of a buffer are read to the end of a vector of sevens. The first allocation

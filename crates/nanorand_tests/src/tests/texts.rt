@@ -8,15 +8,15 @@ use std::fmt::{Debug, Display};
 use std::process::Abort;
 use std::test::Fail;
 
-// The value has this text, also in alternate form, with leading zeros and a precision, and with a
-// fill, an alignment, a sign and all of these.
+// The value has this text, also in alternate form, with a fill, an alignment, a sign, leading zeros
+// and a precision.
 fn has_debug_text<T: Debug>(
     rt: &(impl Abort + AllocGlobal),
     value: &T,
     text: &str,
 ) -> Result<(), AllocError> {
-    let texts = format_args!("{value:?}{value:#?}{value:0200.3?}{value:*^+#0200.3?}");
-    display_is(rt, &texts, text.repeat(rt.alloc(), 4)?.as_str())
+    let texts = format_args!("{value:?}{value:*^+#0200.3?}");
+    display_is(rt, &texts, text.repeat(rt.alloc(), 2)?.as_str())
 }
 
 fn has_display_text<T: Display>(
@@ -24,8 +24,8 @@ fn has_display_text<T: Display>(
     value: &T,
     text: &str,
 ) -> Result<(), AllocError> {
-    let texts = format_args!("{value}{value:#}{value:0200.3}{value:*^+#0200.3}");
-    display_is(rt, &texts, text.repeat(rt.alloc(), 4)?.as_str())
+    let texts = format_args!("{value}{value:*^+#0200.3}");
+    display_is(rt, &texts, text.repeat(rt.alloc(), 2)?.as_str())
 }
 
 /// The value has these texts, whatever the format options are.
