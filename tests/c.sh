@@ -9,9 +9,9 @@
 # The header must declare the exports and the archives' symbols. With four compilers, and warnings as errors, the header
 # compiles alone and warns of mistakes, and structs have the declared layout in memory. The table of known answers, the
 # edge cases, the classes of C++ and the examples are compiled once and linked with both libraries. With further
-# standards the table and the edge cases only have to compile, and so does the benchmark. Then come two releases in one
-# program, what c/install installs, the crate of the exports, and a check that the tests run all its code. The last line
-# is N passed, M failed.
+# standards the tests and the examples only have to compile, and so does the benchmark. One compiler of each language
+# has its sanitizers look at the tests. Then come two releases in one program, what c/install installs, the crate of the
+# exports, and a check that the tests run all its code. The last line is N passed, M failed.
 # shellcheck source=tests/lib.sh
 source "$(dirname "${BASH_SOURCE[0]}")/lib.sh"
 # The static library that each of cargo and kit built.
@@ -21,17 +21,18 @@ warnings=(-Wall -Wextra -pedantic -Werror)
 standards=('gcc c99 c11 c17' 'clang c99 c11 c17' 'g++ c++11 c++17 c++20' 'clang++ c++11 c++17 c++20')
 # The warnings that nanorand.hpp is free of.
 class_warnings=(-Wshadow -Wconversion -Wsign-conversion -Wold-style-cast)
-sanitizers=(-g '-fsanitize=address,undefined' -fno-sanitize-recover=all)
-# The tests of the interface of C. All of them are optimized except the first.
+sanitizers=(-g1 '-fsanitize=address,undefined' -fno-sanitize-recover=all)
+# The tests of the interface of C. In C, all of them are optimized except the first.
 sources=(c/tests/{layout,edges,guards,numbers,items}.c)
 # The great sizes of edges.c, which depend on the library alone, are tested with the first compiler.
 sizes=()
 
 # Builds and installs the library with rustc and cc.
 by_cargo() {
+    rustc_once "$work/once"
     if ! available cc gcc rustc rustc cargo cargo; then
         skip 'the C interface of the library by cargo' 'there is no cc, rustc or cargo'
-    elif PREFIX=$work/installed c/install >"$work/log" 2>&1; then
+    elif RUSTC=$work/once PREFIX=$work/installed c/install >"$work/log" 2>&1; then
         archives[cargo]=$work/installed/lib/libnanorand.a
     else
         check 'c/install' "it failed: $(cat "$work/log")"
@@ -106,36 +107,43 @@ prints() {
 
 # All tests with one compiler; $1 is its name and its standards.
 compiler() {
-    local name=${1%% *} package standard first source
+    local name=${1%% *} package standard first source optimized=(-O2)
     package=${name/clang++/clang}
     if ! available "$name" "$package"; then
         skip "the C interface by $name" 'it is not there'
         return
     fi
     read -r _ first _ <<<"$1"
+    prints "$name $first" c/tests/alone.c /dev/null
+    prints "$name $first" c/examples/roll.c c/examples/roll.out
+    prints "$name $first" c/examples/deck.c c/examples/deck.out
     for standard in ${1#* }; do
-        prints "$name $standard" c/tests/alone.c /dev/null
-        prints "$name $standard" c/examples/roll.c c/examples/roll.out
-        prints "$name $standard" c/examples/deck.c c/examples/deck.out
-        tests_of "$name $standard" c/tests/layout.c
-        [ "$standard" = "$first" ] || compiles "$name $standard" c/tests/answers.c "${sources[@]}"
+        [ "$standard" = "$first" ] ||
+            compiles "$name $standard" c/tests/{alone,answers}.c c/examples/{roll,deck}.c "${sources[@]}"
     done
+    [[ $first != c++* ]] || optimized=()
+    tests_of "$name $first" c/tests/layout.c
     for source in "${sources[@]:1}"; do
-        tests_of "$name $first" "$source" -O2 "${sizes[@]}"
+        tests_of "$name $first" "$source" "${optimized[@]}" "${sizes[@]}"
     done
     sizes=(-DFEW)
     answers_of "$name $first"
     ! asked_for cargo || warnings_of "$name $first"
     if [[ $first == c++* ]]; then
         classes "$name"
-    else
+    elif looks_for_errors "$name $first"; then
         sanitized "$name $first"
     fi
 }
 
-# The compiler and the standard in $1 have no warnings about the sources that follow.
+# Whether the tests are to run with the sanitizers of the compiler in $1: clang's, and gcc's if there is no clang.
+looks_for_errors() {
+    { [[ $1 == clang* ]] || ! available clang clang >/dev/null; } && has_sanitizers "$1"
+}
+
+# The compiler and the standard in $1 have no warnings about the sources and flags that follow.
 compiles() {
-    check "$1 compiles the tests" \
+    check "$1 compiles ${*:2}" \
         "$(compile "$1" -fsyntax-only "${@:2}" || said)"
 }
 
@@ -146,18 +154,18 @@ answers_of() {
         expect "$1, every row" "$rows" "$(tail -n 1 "$work/log" | awk '{ print $1 + $3 }')"
 }
 
-# The classes of C++, with the compiler $1: all tests as C++17, with sanitizers, and as C++20 without them, and an
-# example as C++23.
+# The classes of C++, with the compiler $1: all tests as C++17, with sanitizers, or as C++20 without them; the other of
+# the two only has to compile, and so does an example as C++23.
 classes() {
-    local flags=("${class_warnings[@]}") sanitized=()
+    local flags=("${class_warnings[@]}") sanitized=() run=c++20 other=c++17
     [ "$1" != g++ ] || flags+=(-Wuseless-cast)
-    ! has_sanitizers "$1 c++17" || sanitized=("${sanitizers[@]}")
+    ! looks_for_errors "$1 c++17" || sanitized=("${sanitizers[@]}") run=c++17 other=c++20
     prints "$1 c++17" c/examples/shuffle.cpp c/examples/shuffle.out
     prints "$1 c++17" c/examples/threads.cpp c/examples/threads.out -pthread
-    tests_of "$1 c++17" c/tests/cpp.cpp "${flags[@]}" "${sanitized[@]}"
-    tests_of "$1 c++17" c/tests/lengths.cpp "${flags[@]}" "${sanitized[@]}"
-    tests_of "$1 c++20" c/tests/cpp.cpp "${flags[@]}"
-    prints "$1 c++2b" c/examples/shuffle.cpp c/examples/shuffle.out
+    tests_of "$1 $run" c/tests/cpp.cpp "${flags[@]}" "${sanitized[@]}"
+    tests_of "$1 $run" c/tests/lengths.cpp "${flags[@]}" "${sanitized[@]}"
+    compiles "$1 $other" c/tests/{cpp,lengths}.cpp "${flags[@]}"
+    compiles "$1 c++2b" c/examples/shuffle.cpp
     ! asked_for cargo || header_of_classes "$1 c++17"
     ! asked_for cargo || warnings_of_classes "$1 c++17"
 }
@@ -183,7 +191,6 @@ has_sanitizers() {
 # The tests of C with sanitizers. As C++, which has the same sanitizers, only the classes are tested with them.
 sanitized() {
     local source
-    has_sanitizers "$1" || return
     for source in "${sources[@]}"; do
         tests_of "$1" "$source" "${sanitizers[@]}" "${sizes[@]}"
     done
@@ -427,7 +434,7 @@ if available cc gcc; then
     two_releases
 fi
 if [ -n "${archives[cargo]-}" ]; then
-    part c/tests/install.sh
+    part env COMPILED="$work/once.a" c/tests/install.sh
     # Debian's rustc, an old version, may be installed beside a newer one.
     available /usr/bin/rustc rustc /usr/bin/cargo cargo
     part tests/c_crate.sh

@@ -30,23 +30,23 @@ exports_the_header() {
         diff <(nm -D --defined-only target/release/libnanorand.so | awk '{ print $3 }' | sort) <(declared)
 }
 
-# The same for the archive that c/install builds with the oldest compiler.
+# The same for the archive that c/install builds with the oldest compiler. If that is the one of the other tests,
+# c/tests/install.sh looks at it.
 oldest_exports_the_header() {
     RUSTC=$oldest_bin/rustc PREFIX=$PWD/target/oldest/installed ../../c/install &&
         diff <(nm -g --defined-only target/oldest/installed/lib/libnanorand.a | awk 'NF == 3 { print $3 }' | sort) <(declared)
 }
 
 step cargo test --offline
-step cargo test --offline --release
 step unsafe_in_one_file
 step laid_out_as_in_c
 step exports_the_header
 step runs_on_every_processor target/release/libnanorand.so
-if is_version "$oldest" "$oldest_bin/rustc"; then
+if ! is_version "$oldest" "$oldest_bin/rustc"; then
+    skip "the C library by rustc $oldest, the oldest that Cargo.toml names" "$oldest_bin has none"
+elif ! is_version "$oldest" rustc; then
     step env RUSTC="$oldest_bin/rustc" "$oldest_bin/cargo" test --offline --target-dir target/oldest
     step oldest_exports_the_header
-else
-    skip "the C library by rustc $oldest, the oldest that Cargo.toml names" "$oldest_bin has none"
 fi
 clippy_and_format --all-targets
 finish

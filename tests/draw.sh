@@ -111,7 +111,7 @@ every_number() {
     sum=$(sha256sum <"$work/out")
     count 'every number of requests' "$(
         differs 'status' "$status" 0
-        differs 'the sum' "${sum%% *}" "$(tests/answers/draw_sums.py every_number)"
+        differs 'the sum' "${sum%% *}" "${sums[every_number]}"
         differs_in 'standard error' err ''
     )"
 }
@@ -132,7 +132,7 @@ many_requests() {
     sum=$(sha256sum <"$work/out")
     count '131,073 requests' "$(
         differs 'status' "$status" 0
-        differs 'the sum' "${sum%% *}" "$(tests/answers/draw_sums.py many_requests)"
+        differs 'the sum' "${sum%% *}" "${sums[many_requests]}"
         differs_in 'standard error' err ''
     )"
     begin
@@ -274,6 +274,11 @@ awk '/^const ENDS/ { on = 1; next }
     on && sub(/\\n\\$/, "") { print line $0; line = ""; next }
     on { on = !sub(/";$/, ""); sub(/\\$/, ""); line = line $0; if (!on) print line }
 ' crates/program_tests/src/tests/draw.rt >"$work/lines"
+[ -n "$(builds)" ] || finish
+declare -A sums
+for name in every_number many_requests; do
+    sums[$name]=$(tests/answers/draw_sums.py "$name")
+done
 for compiler in $(builds); do
     texts
     streams_in_use
@@ -288,7 +293,6 @@ for compiler in $(builds); do
     little_memory
     no_errors
 done
-[ -n "$(builds)" ] || finish
 all_different
 count 'lines of tests' "$(differs 'their number' "$(wc -l <"$work/lines")" 50)"
 finish

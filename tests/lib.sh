@@ -211,6 +211,22 @@ apt_get() {
         >/dev/null 2>&1 </dev/null
 }
 
+# Writes the command $1, which c/install may have as RUSTC: it compiles by rustc and keeps the library of C as $1.a. If
+# that is there, it gives it. So what does not depend on how the library is compiled needs it compiled once.
+rustc_once() {
+    cat >"$1" <<'END'
+#!/bin/bash
+[ -e "$0.a" ] || rustc "$@" || exit
+while [ "$1" != --out-dir ]; do shift; done
+if [ -e "$0.a" ]; then
+    install "$0.a" "$2/libnanorand.a"
+elif [ -e "$2/libnanorand.a" ]; then
+    install "$2/libnanorand.a" "$0.a"
+fi
+END
+    chmod +x "$1"
+}
+
 # The PATH without the folders that hold the kit.
 path_without_kit() {
     local folder kept=()

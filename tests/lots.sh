@@ -643,7 +643,7 @@ little_memory() {
 less_and_less() {
     local kibibytes refused=0 wrong=
     timeout 60 "$work/$compiler" "$@" <"$work/list" >"$work/all" || true
-    for ((kibibytes = 24000; kibibytes >= 1000; kibibytes -= 250)); do
+    for ((kibibytes = 24000; kibibytes >= 1000; kibibytes -= 500)); do
         begin
         {
             prlimit --as="$((kibibytes * 1024))" "$work/$compiler" "$@" \

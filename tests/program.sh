@@ -46,7 +46,19 @@ differs() {
 
 # Says what $1, in the file $2, is, unless it is the text $3, which has the escapes of printf's %b.
 differs_in() {
-    printf '%b' "$3" | cmp -s - "$work/$2" || printf ' %s is %q;' "$1" "$(head -c 300 "$work/$2" | tr '\0' '?')"
+    holds "$work/$2" "$3" || printf ' %s is %q;' "$1" "$(head -c 300 "$work/$2" | tr '\0' '?')"
+}
+
+# Whether the file $1 is such a text $2. Two processes for each case take long, but a variable cannot hold a byte 0: an
+# escape may stand for one, and `read` ends at one with status 0.
+holds() {
+    local found wanted
+    if [[ $2 == *\\[0xuU]* ]] || IFS= read -r -d '' found <"$1"; then
+        printf '%b' "$2" | cmp -s - "$1"
+    else
+        printf -v wanted '%b' "$2"
+        [ "$found" = "$wanted" ]
+    fi
 }
 
 # Says what $1, in the file $2, is, unless it equals the file $3.

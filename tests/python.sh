@@ -5,12 +5,14 @@
 #     tests/python.sh kit      tests it only with the kit's library
 #     tests/python.sh cargo    tests everything else
 #
-# For each library it builds the wheel in two folders, installs it into new environments of python3 and of the system's
-# Python, without the kit, and runs python/tests there, the long tests once. It also builds the wheel from the source
-# distribution, with an older rustc, and for an editable installation. The last line is N passed, M failed.
+# For each library it builds the wheel, installs it into a new environment of python3, without the kit, and runs
+# python/tests there, the long tests once. The system's Python runs those that need NumPy, or all if it is another one.
+# The wheel is also built in another folder, from the source distribution, with an older rustc, and for an editable
+# installation. What does not depend on how rustc compiles the library has it compiled once. The last line is N passed,
+# M failed.
 # shellcheck source=tests/lib.sh
 source "$(dirname "${BASH_SOURCE[0]}")/lib.sh"
-unset NANORAND_LIBRARY PYTHONPATH
+unset NANORAND_LIBRARY PYTHONPATH RUSTC
 export PYTHONDONTWRITEBYTECODE=1
 # Without its cache, pip builds a wheel each time.
 pip=(--quiet --no-index --no-cache-dir --disable-pip-version-check)
@@ -36,10 +38,16 @@ build_in_another_place() {
     (cd "$work/another place/of the same/sources" && python/build.py "$1")
 }
 
+# The file of the Python $1.
+file_of() {
+    realpath "$(command -v "$1")"
+}
+
 # Makes a new environment of the Python $1 in the folder $2. Further arguments go to venv. Its pip is that of the first
 # environment of this Python, as making one takes seconds. A pip before 22.3 serves its own environment alone.
 new_environment() {
-    local first=$work/pips/${1//\//.}
+    local first
+    first=$work/pips/$(file_of "$1" | tr / .)
     if [ ! -e "$first" ]; then
         "$1" -m venv "$first" || return
         "$first/bin/pip" --python "$first/bin/python" --version || rm "$first/bin/pip"
@@ -69,17 +77,25 @@ same_bytes() {
     [ "$(ls "$1")" = "$(ls "$2")" ] && cmp "$1"/*.whl "$2"/*.whl
 }
 
-# Builds the wheel with the library of $1, which NANORAND_LIBRARY names or rustc compiles, and runs its tests.
+# Builds the wheel with the library of $1, which NANORAND_LIBRARY names or rustc compiles, and runs its tests, or those
+# that follow. Another folder gives the same wheel, which one library is enough to show.
 over() {
     local room=$work/$1
     step python/build.py "$room/one"
-    step another_place
-    step build_in_another_place "$room/two"
-    step same_bytes "$room/one" "$room/two"
+    if [ "$1" = cargo ] || ! has_rustc; then
+        step another_place
+        step build_in_another_place "$room/two"
+        step same_bytes "$room/one" "$room/two"
+    fi
     WHEEL=$(echo "$room"/one/*.whl) unit_tests 'python/tests/wheel.py' in_repository wheel
     [ "$1" = kit ] || step runs_everywhere "$room/one"
     step environment python3 "$room/env" "$room/one"
-    unit_tests "python/tests over $1's library" in_tests "$room/env/bin/python"
+    unit_tests "python/tests over $1's library" in_tests "$room/env/bin/python" "${@:2}"
+}
+
+# The tests for which it matters what the library computes.
+of_the_library() {
+    (cd python/tests && printf '%s\n' test_*.py | grep -v '_\(memory\|signals\|surface\|documents\)\.py$' | sed 's/\.py$//')
 }
 
 # Whether rustc can build the library.
@@ -147,7 +163,7 @@ another_version() {
     sed -i 's/^#define NANORAND_VERSION .*/#define NANORAND_VERSION 123456/' "$place/c/include/nanorand.h"
     cc -std=c11 -O2 -fPIC "-I$place/c/include" -c -o "$room/refusing.o" python/tests/refusing.c
     ar rcs "$room/refusing.a" "$room/refusing.o"
-    step env NANORAND_LIBRARY="$room/refusing.a" "$place/python/build.py" "$room/one"
+    step env CC="$work/quick" NANORAND_LIBRARY="$room/refusing.a" "$place/python/build.py" "$room/one"
     expect 'the version of its wheel' nanorand-12.34.56 "$(cd "$room/one" && echo *.whl | grep -o '^[^-]*-[^-]*')"
     step environment python3 "$room/env" "$room/one"
     expect 'its version' 12.34.56 "$("$room/env/bin/python" -c 'import nanorand; print(nanorand.__version__)')"
@@ -165,7 +181,6 @@ counted() {
         return
     fi
     mkdir -p "$room/own" "$room/refusing"
-    # Of several -O options the last one applies.
     printf '#!/bin/sh\nexec gcc --coverage -dumpdir "$COUNTS/" "$@" -O0\n' >"$room/cc"
     chmod +x "$room/cc"
     step counting own python/build.py "$room/own/wheel"
@@ -202,12 +217,14 @@ all_python_counted() {
         in_python own -m coverage report --rcfile "$PWD/pyproject.toml"
 }
 
-# The compiler $1 has no warnings about the C files.
+# The compiler $1, with the options that follow, has no warnings about the C files. Some of gcc's need -O2, and none of
+# clang's.
 without_warnings() {
-    local source
+    local source headers
+    headers=$(python3 -c 'import sysconfig; print(sysconfig.get_path("include"))')
     for source in python/native/*.c; do
-        "$1" -std=c11 -O2 -fPIC -Wall -Wextra -pedantic -Werror -Ic/include -isystem \
-            "$(python3 -c 'import sysconfig; print(sysconfig.get_path("include"))')" -c -o /dev/null "$source" || return
+        "$@" -std=c11 -fPIC -Wall -Wextra -pedantic -Werror -Ic/include -isystem "$headers" -c -o /dev/null "$source" ||
+            return
     done
 }
 
@@ -218,20 +235,28 @@ stubs_are_right() {
     PYTHONPATH=$site stubtest nanorand._native
 }
 
+# Writes a C compiler that does not optimize, for modules that only have to work. The last -O option applies.
+quick_compiler() {
+    printf '#!/bin/sh\nexec cc "$@" -O0\n' >"$work/quick"
+    chmod +x "$work/quick"
+}
+
 # Has pip, with the Python $1, install $2 into the new environment $3. Further arguments are options of pip.
 pip_installs() {
+    local -x CC=$work/quick
     new_environment "$1" "$3" && "$3/bin/pip" install "${pip[@]}" "${@:4}" "$2" &&
         [ "$("$3/bin/python" -I -c 'import nanorand; print(nanorand.WyRand(42).range(1, 100))')" = 69 ]
 }
 
-# Builds with an older rustc and then again with the first one, in this same folder. Neither build finds files of the
-# other, and the first rustc makes the same wheel as before.
+# Builds with an older rustc, if there is one, and then again with the first one, in this same folder. Neither build
+# finds files of the other, and the first rustc makes the same wheel as before.
 by_two_compilers() {
     local room=$work/cargo
     if ! [ -x "$oldest_bin/rustc" ]; then
         skip 'the package by an older rustc' "there is no $oldest_bin/rustc"
         return
     fi
+    [ "$("$oldest_bin/rustc" --version)" != "$(rustc --version)" ] || return
     step env RUSTC="$oldest_bin/rustc" python/build.py "$room/older"
     step environment python3 "$room/env_of_older" "$room/older"
     unit_tests 'python/tests/test_answers.py by an older rustc' in_tests "$room/env_of_older/bin/python" test_answers
@@ -249,8 +274,8 @@ readme_examples() {
     "$1" -I -m doctest python/README.md
 }
 
-# Builds the source distribution, and from it, in another folder, the wheel that the repository makes. pip also installs
-# it without isolation, with the library that c/install built.
+# Builds the source distribution, and from it, in another folder and by rustc, the wheel that the repository makes. pip
+# also installs it without isolation, with the library that c/install built.
 by_source_distribution() {
     local room=$work/sdist archive other=/usr/bin/python3
     [ -x "$other" ] || other=python3
@@ -266,14 +291,14 @@ by_source_distribution() {
 }
 
 # The command of the package `build` makes the same source distribution, and from it the wheel in the folder $1, with
-# the library that NANORAND_LIBRARY names.
+# the library that NANORAND_LIBRARY names. pip builds it in isolation.
 by_build() {
     local room=$work/build
     if ! [ -e "$work/sdist/one" ] || ! available /usr/lib/python3/dist-packages/build python3-build; then
         skip 'python -m build' 'it or the source distribution is not there'
         return
     fi
-    step "$system" -m build --outdir "$room" .
+    step "$system" -m build --no-isolation --outdir "$room" .
     step cmp "$(echo "$work"/sdist/one/*.tar.gz)" "$room"/*.tar.gz
     step cmp "$1"/*.whl "$room"/*.whl
 }
@@ -353,22 +378,26 @@ if [ -z "$kit" ] && ! has_rustc; then
 fi
 copy_of_tests
 with_its_tests python3
+quick_compiler
+tests=()
 if [ -n "$kit" ]; then
-    # The long tests are run over rustc's library, if there is rustc. One of them depends on the library.
-    ! has_rustc || export NANORAND_SHORT=1
-    NANORAND_LIBRARY=$kit over kit
+    # The long tests are run over rustc's library, if there is rustc, and so are those of the package alone.
+    if has_rustc; then
+        mapfile -t tests < <(of_the_library)
+        export NANORAND_SHORT=1
+    fi
+    NANORAND_LIBRARY=$kit over kit "${tests[@]}"
     unset NANORAND_SHORT
-    unit_tests 'more than 2^32 bytes' in_tests "$work/kit/env/bin/python" \
-        test_lots.Lots.test_more_bytes_than_32_bits_count
 elif asked_for kit; then
     skip 'the package over the library of the kit' 'there is no kit'
 fi
 asked_for cargo || finish
 if has_rustc; then
-    over cargo
-    step env PREFIX="$work/installed" c/install
+    rustc_once "$work/once"
+    step env RUSTC="$work/once" PREFIX="$work/installed" c/install
     library=$work/installed/lib/libnanorand.a
-    step pip_installs python3 . "$work/env_of_cargo"
+    RUSTC=$work/once over cargo
+    RUSTC=$work/once step pip_installs python3 . "$work/env_of_cargo"
     by_two_compilers
     by_source_distribution
     by_editable
@@ -388,11 +417,15 @@ system=/usr/bin/python3
 if [ -x "$system" ] && can_build "$system"; then
     with_its_tests "$system"
     available '/usr/lib/python3/dist-packages/numpy' python3-numpy || true
-    step "$system" python/build.py "$work/system/one"
-    step environment "$system" "$work/system/env" "$work/system/one" --system-site-packages
-    by_build "$work/system/one"
+    wheel=$first/one tests=(test_numpy test_fills.NumPy)
+    if [ "$(file_of python3)" != "$(file_of "$system")" ]; then
+        wheel=$work/system/one tests=()
+        step "$system" python/build.py "$wheel"
+    fi
+    step environment "$system" "$work/system/env" "$wheel" --system-site-packages
+    by_build "$wheel"
     export NANORAND_SHORT=1
-    unit_tests "python/tests by the system's Python" in_tests "$work/system/env/bin/python"
+    unit_tests "python/tests by the system's Python" in_tests "$work/system/env/bin/python" "${tests[@]}"
     numpys_own "$work/system/env"
     counted
     unset NANORAND_SHORT
@@ -403,9 +436,9 @@ by_newer_pythons
 refused_statuses
 another_version
 unit_tests 'python/tests/packaging.py' in_repository packaging
-step without_warnings cc
+step without_warnings cc -O2
 if available clang clang; then
-    step without_warnings clang
+    step without_warnings clang -fsyntax-only
 else
     skip 'the warnings of clang' 'there is no clang'
 fi

@@ -5,7 +5,7 @@
 
 For example, tests/second_opinion.py target/release/lots. It compares:
 
-- 1,000 draws by the code's function `draw` and by each program. Seeds, lists and counts are pseudorandom, the same in
+- 300 draws by the code's function `draw` and by each program. Seeds, lists and counts are pseudorandom, the same in
   each run.
 - 25 draws by the code as a program, and the errors of both, with their output to standard error.
 - 25 draws by the shorter code, which computes the keystream with openssl.
@@ -74,9 +74,9 @@ def other_than(wanted, programs, arguments, text, case):
 
 
 def draws(programs, draw):
-    """The same for 1,000 draws."""
+    """The same for 300 draws."""
     rng = random.Random(29)
-    for number in range(1000):
+    for number in range(300):
         most = 12 if number % 4 == 3 else 300
         size = rng.randint(301, 5000) if number % 50 == 0 else rng.randint(0, most)
         seed, entrants = a_seed(rng), some_entrants(rng, size)

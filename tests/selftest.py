@@ -807,11 +807,11 @@ def compared_often(counts, room):
         called.append(os.readlink(Path(cwd, "lots")))
         return mock.Mock(returncode=7, stdout="")
 
-    sizes = {"ANNOUNCEMENTS": 400, "RECORDS": 400, "CHANGES": 2000}
+    sizes = {"ANNOUNCEMENTS": 100, "RECORDS": 100, "CHANGES": 500}
     counts.same("the numbers of records", {name: getattr(compare_records, name) for name in sizes}, sizes)
     page = second_opinion.PAGE.read_text(encoding="utf-8")
     for script, name, times, *given in [
-        (second_opinion, "draws", 1000, lambda seed, entrants, count: entrants[:count]),
+        (second_opinion, "draws", 300, lambda seed, entrants, count: entrants[:count]),
         (second_opinion, "draws_by_process", 25, "code"), (second_opinion, "draws_by_openssl", 25, "", room),
         (second_opinion, "refusals", 27, "code"), (second_opinion, "examples", 8, page, room),
         (compare_records, "announced", 20), (compare_records, "written_and_accepted", 5 * 20, room),

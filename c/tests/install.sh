@@ -1,6 +1,8 @@
 #!/usr/bin/env bash
 # Tests c/install: c/tests/install.sh. The last line is N passed, M failed.
 #
+# COMPILED may name the library that rustc compiled here for c/install, so that it is not compiled again.
+#
 # The PATH of the build has only the build's tools, so neither the kit nor Python. The installed libraries must have the
 # header's functions and no others, programs are built with the flags of pkg-config, and another folder must produce the
 # same bytes.
@@ -15,10 +17,9 @@ tools() {
     for tool in rustc cc ld ar objcopy bash dirname realpath mktemp mkdir sed rm ln install; do
         ln -s "$(command -v "$tool")" "$work/bin/"
     done
-    # In place of rustc, it gives the archive of the first build, for what does not depend on compiled code.
-    printf '#!/bin/bash\nwhile [ "$1" != --out-dir ]; do shift; done\ninstall "%s" "$2"\n' "$root/lib/libnanorand.a" \
-        >"$work/bin/given"
-    chmod +x "$work/bin/given"
+    # In place of rustc, for what does not depend on how it compiles.
+    rustc_once "$work/bin/given"
+    [ -z "${COMPILED:-}" ] || cp "$COMPILED" "$work/bin/given.a"
 }
 
 # Runs c/install in the folder $1, with the variables that follow.
@@ -144,10 +145,15 @@ example() {
     fi
 }
 
+# Makes CMake forget all but what it found out about the compiler, and removes the program.
+begins_anew() {
+    rm -f "$1"/build/{CMakeCache.txt,shuffle}
+}
+
 # Builds the example in the folder $1 by CMake with the arguments that follow, and compares what it prints without
 # LD_LIBRARY_PATH.
 by_cmake() {
-    rm -rf "$1/build"
+    begins_anew "$1"
     cmake -S "$1" -B "$1/build" "${@:2}" >"$work/errors" 2>&1 && cmake --build "$1/build" >>"$work/errors" 2>&1 ||
         cat "$work/errors"
     check "CMake: ${*:2}" "$(env -u LD_LIBRARY_PATH "$1/build/shuffle" 2>&1 | diff - c/examples/shuffle.out)"
@@ -167,7 +173,7 @@ linked_folders() {
 
 # Fails if CMake accepts the version $2 of the library for the project in the folder $1.
 refuses_version() {
-    rm -rf "$1/build"
+    begins_anew "$1"
     sed -i "s/find_package(nanorand 1.0 /find_package(nanorand $2 /" "$1/CMakeLists.txt"
     check "CMake: version $2" \
         "$(cmake -S "$1" -B "$1/build" "-DCMAKE_PREFIX_PATH=$root" >/dev/null 2>&1 && echo 'it is accepted')"
@@ -250,11 +256,11 @@ programs() {
 # A build from a copy of the files in another folder, with another umask and time zone, DESTDIR and a relative PREFIX,
 # installs the same files.
 another_folder() {
-    local copy=$work/another/folder
+    local copy=$work/'another folder/of it'
     mkdir -p "$copy" "$work/here"
     git ls-files -z --cached --others --exclude-standard rust c include | xargs -0 cp --parents -t "$copy"
     check 'another build' "$(cd "$work/here" && umask 077 &&
-        install_from ../another/folder PREFIX=usr DESTDIR=destination TZ=Asia/Kolkata)"
+        install_from '../another folder/of it' PREFIX=usr DESTDIR=destination TZ=Asia/Kolkata)"
     check 'equal bytes' "$(diff -r "$root" "$work/here/destination$work/here/usr" 2>&1)"
     check 'the same files' "$(files "$work/here/destination$work/here/usr" | diff - <(files "$root"))"
 }
@@ -317,7 +323,7 @@ END
 # Another release, whose numbers all have two digits, says its version. CMake accepts this version and older ones with
 # the same first number, and no others.
 another_version() {
-    local copy=$work/another/folder prefix=$work/versioned wanted
+    local copy=$work/'another folder/of it' prefix=$work/versioned wanted
     local accepted=(12 12.0 12.0.0 12.9 12.33.99 12.34 12.34.6 12.34.55 12.34.56 12.34.56-EXACT)
     local refused=(0 0.9 1 1.2 1.2.3 2.34.56 11 11.34.56 11.99.99 12.34-EXACT 12.34.55-EXACT 12.34.57 12.34.560 12.35 12.100
         13 13.0.0 13.34.56 34 120.34.56 123456)
@@ -352,7 +358,7 @@ over_an_older_one() {
         echo older >"$other/$file"
     done
     ln -sf libnanorand.so.0 "$other/lib/libnanorand.so"
-    check 'over another, CC with options' "$(unset PREFIX && install_from . DESTDIR="$work/options" CC='cc -pipe')"
+    check 'over another, CC with options' "$(unset PREFIX && install_from . DESTDIR="$work/options" CC='cc -pipe' RUSTC=given)"
     check 'the same files' "$(files "$other" | diff - <(files "$root"))"
     check 'the same bytes' "$(diff -r --no-dereference "$root" "$other" 2>&1)"
     check 'CC has to be there' \
@@ -390,7 +396,7 @@ failures() {
 }
 
 tools
-check 'c/install' "$(install_from . PREFIX="$root")"
+check 'c/install' "$(install_from . PREFIX="$root" RUSTC=given)"
 installed_files
 libraries
 members

@@ -68,6 +68,11 @@ def once(test):
     return None if "NANORAND_SHORT" in os.environ else test
 
 
+def uncounted(test):
+    """Marks a test, or a class of tests, that is slow while its lines are counted, and runs none that no other runs."""
+    return None if "COVERAGE_FILE" in os.environ else test
+
+
 def generators():
     """One generator of each class, and two more streams, with no and with the maximum of buffered bytes."""
     return [

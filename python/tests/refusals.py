@@ -149,6 +149,12 @@ class Refusals(unittest.TestCase):
             lots.draw(b"\3", ["a", "b", "c"], 2)
         self.assertEqual((caught.exception.entrants, caught.exception.count), (3, 2))
 
+    def test_lists_of_more_than_four_gib(self):
+        """The library gets the whole length."""
+        zeros = bytes(2**32 + 5)
+        self.assertEqual(int.from_bytes(lots.digest(zeros), "little"), len(zeros))
+        self.assertEqual(lots.count(zeros), len(zeros))
+
     def test_versions(self):
         """The library must have the header's major version, and must not be older."""
         for version in (10000, 10001, 19999, 9999, 20000, 0):

@@ -51,9 +51,12 @@ static void fill(void *state, uint8_t *buffer, size_t length, size_t block)
     uint8_t *bytes = state;
     uint32_t position;
     memcpy(&position, bytes + 4, sizeof position);
-    for (size_t i = 0; i < length; i++) {
-        buffer[i] = bytes[0] == NANORAND_OK || position + i < 16 * (uint32_t)bytes[1] ? 0x77 : 0;
+    size_t end = 16 * (size_t)bytes[1], good = position < end ? end - position : 0;
+    if (bytes[0] == NANORAND_OK || good > length) {
+        good = length;
     }
+    memset(buffer, 0x77, good);
+    memset(buffer + good, 0, length - good);
     position += (uint32_t)((length + block - 1) / block * block);
     memcpy(bytes + 4, &position, sizeof position);
 }
@@ -134,12 +137,15 @@ nanorand_status nanorand_pcg64_distance(const nanorand_pcg64 *rng, const nanoran
     return (nanorand_status)(uint8_t)other->low;
 }
 
+/* In place of a digest it returns the length. */
 void nanorand_lots_digest(const uint8_t *text, size_t length, uint8_t digest[32])
 {
-    memset(digest, length == 0 ? 0 : text[0], 32);
+    (void)text;
+    memset(digest, 0, 32);
+    memcpy(digest, &length, sizeof length);
 }
 
-/* The first byte of the list is the status. */
+/* The first byte of the list is the status, and its length the number. */
 nanorand_lots_status nanorand_lots_count(const uint8_t *list, size_t length, size_t *number)
 {
     *number = length;

@@ -21,12 +21,12 @@ try:
 except ImportError:
     _testcapi = None
 
-from makers import CLASSES, KEY, NONCE, RANDOMS, generators, once
+from makers import CLASSES, KEY, NONCE, RANDOMS, generators, once, uncounted
 
 from nanorand import ChaCha8, Generator, Pcg64, Stream, WyRand, _native, lots
 from nanorand.randoms import WyRandRandom
 
-TIMES, ROUNDS = 1000, 20
+TIMES, ROUNDS = 300, 20
 BIG = 10**40
 ITEMS = ["an item %d" % place for place in range(9)]
 
@@ -293,6 +293,7 @@ class Leaks(unittest.TestCase):
         after = [sys.getallocatedblocks(), *map(sys.getrefcount, watched)]
         return [now - then for now, then in zip(after, before)]
 
+    @uncounted
     def test_calls_that_succeed(self):
         for rng in generators():
             for name, call in SUCCEED.items():
@@ -320,6 +321,7 @@ class Leaks(unittest.TestCase):
                 with self.subTest(call=call):
                     self.keeps_nothing(fails, call, *arguments)
 
+    @uncounted
     def test_calls_of_random(self):
         for kind in RANDOMS:
             for name, call in OF_RANDOM.items():
@@ -366,9 +368,9 @@ class Leaks(unittest.TestCase):
             for _ in range(5):
                 call()
             before = resident()
-            for _ in range(200):
+            for _ in range(100):
                 call()
-            self.assertLess(resident() - before, 20 * 2**20, place)
+            self.assertLess(resident() - before, 10 * 2**20, place)
 
     def test_locks_are_freed(self):
         """A generator that has drawn without Python's lock has a lock of its own, which is freed."""
@@ -551,7 +553,7 @@ class NoMemory(unittest.TestCase):
         except SystemError:
             raise MemoryError from None
 
-    def keeps_nothing(self, watched, call, arguments, times=20):
+    def keeps_nothing(self, watched, call, arguments, times=10):
         """Whichever allocation fails, there are as many references to these objects afterwards."""
         usual = self.error_of(call, *arguments)
         request = granted = 0

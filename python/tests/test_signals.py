@@ -11,6 +11,8 @@ import threading
 import time
 import unittest
 
+from makers import uncounted
+
 from nanorand import ChaCha20, Pcg64, Stream, WyRand
 
 LENGTH = 200_000  # more than the library shuffles at once
@@ -86,7 +88,7 @@ class Signals(unittest.TestCase):
         begun = time.perf_counter()
         call(rng, items)
         whole = time.perf_counter() - begun
-        return [whole * part / 16 for part in range(1, 16)]
+        return [whole * part / 8 for part in range(1, 8)]
 
     def in_time(self, attempt, name):
         """Asserts that an attempt succeeds. On a busy machine a signal may come too late, so there are several."""
@@ -106,6 +108,7 @@ class Signals(unittest.TestCase):
                 with self.subTest(call=name, sequence=sequence):
                     self.in_time(some_end, name)
 
+    @uncounted
     def test_it_ends_soon(self):
         """Within 0.1 s, if the machine has time. The median of several calls has it."""
         items = list(range(3_000_000))
@@ -184,7 +187,7 @@ class Signals(unittest.TestCase):
 
                 def is_refused():
                     refused = 0
-                    for seconds in self.moments(Stream(bytes(32)), call, LIST[:])[1::3]:
+                    for seconds in self.moments(Stream(bytes(32)), call, LIST[:])[::3]:
                         used[0].state = before = bytes(48)
                         try:
                             with handled_by(lambda *_: use(used[0]), seconds):

@@ -13,7 +13,7 @@ import time
 import unittest
 from unittest import mock
 
-from makers import CLASSES, RANDOMS, generators
+from makers import CLASSES, RANDOMS, generators, uncounted
 
 from nanorand import ChaCha20, WyRand
 
@@ -268,6 +268,7 @@ class Turns(Threads):
                 other.thread.join()
                 self.assertIn(drawn[0], [draw(kind(5)), draw(kind(6))])
 
+    @uncounted
     def test_python_s_lock_is_given_up(self):
         """While one thread makes a long draw, another one runs."""
         for kind in CLASSES.values():
@@ -369,6 +370,7 @@ class Turns(Threads):
         thread.join()
         self.assertEqual(sorted(items), list(range(1000)))
 
+    @uncounted
     def test_a_long_list_of_another_thread_s(self):
         """A shuffle that finds another length has no effect. All others are atomic."""
         rng, items, stop = WyRand(5), list(range(200_000)), threading.Event()
