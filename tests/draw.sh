@@ -57,8 +57,9 @@ streams_in_use() {
     count 'the input is not read' "$(differs_in 'the rest' rest 'some input')"
 }
 
-# The lines of the tests in crates/program_tests: arguments, `> `, and the wanted text, with `|` for the end of a line,
-# or what is written to standard error.
+# The lines of tests/draw.txt: arguments, `> `, and the wanted text, with `|` for the end of a line, or what is written
+# to standard error. The numbers without a range are those of tests/answers/definitions.py, and the first bytes of ChaCha
+# are published.
 tested_lines() {
     local line text words
     while IFS= read -r line; do
@@ -69,7 +70,7 @@ tested_lines() {
         draw:*) run "the line $line" 2 '' "$text" "${words[@]}" ;;
         *) run "the line $line" 0 "$text" '' "${words[@]}" ;;
         esac
-    done <"$work/lines"
+    done <tests/draw.txt
 }
 
 # Each generator, mode, type and kind of bound. The expected checksum is that of the proved program's output.
@@ -270,10 +271,6 @@ no_errors() {
 }
 
 builds_of draw
-awk '/^const ENDS/ { on = 1; next }
-    on && sub(/\\n\\$/, "") { print line $0; line = ""; next }
-    on { on = !sub(/";$/, ""); sub(/\\$/, ""); line = line $0; if (!on) print line }
-' crates/program_tests/src/tests/draw.rt >"$work/lines"
 [ -n "$(builds)" ] || finish
 declare -A sums
 for name in every_number many_requests; do
@@ -294,5 +291,5 @@ for compiler in $(builds); do
     no_errors
 done
 all_different
-count 'lines of tests' "$(differs 'their number' "$(wc -l <"$work/lines")" 50)"
+count 'lines of tests/draw.txt' "$(differs 'their number' "$(wc -l <tests/draw.txt)" 50)"
 finish

@@ -17,32 +17,6 @@ pub trait Program {
     fn run<A: Allocator, W: Write>(&self, alloc: A, out: &mut W, err: &mut Vec<u8>) -> u8;
 }
 
-/// How a run ends: its exit status, and what it writes to standard output and to standard error.
-#[derive(Clone, Copy)]
-pub struct End<'a> {
-    pub status: u8,
-    pub out: &'a str,
-    pub err: &'a str,
-}
-
-/// The end of a run that writes a text.
-pub fn writes(text: &str) -> End<'_> {
-    End {
-        status: 0,
-        out: text,
-        err: "",
-    }
-}
-
-/// The end of a run that fails.
-pub fn refused(status: u8, line: &str) -> End<'_> {
-    End {
-        status,
-        out: "",
-        err: line,
-    }
-}
-
 /// Returns the arguments of a command line.
 pub fn strings(alloc: Global, arguments: &[&str]) -> Result<Vec<String>, AllocError> {
     let mut strings = Vec::new(alloc);
@@ -50,30 +24,6 @@ pub fn strings(alloc: Global, arguments: &[&str]) -> Result<Vec<String>, AllocEr
         strings.push(String::from_str(alloc, argument)?)?;
     }
     Ok(strings)
-}
-
-// The greatest number of bytes that a writer accepts at a time.
-const PIECES: [usize; 4] = [1, 7, 4096, usize::MAX];
-
-/// Checks that the program ends like this. Its text is written all at once, in as few writes as the
-/// pieces of the writer allow, and then flushed once. After an error, the writer is not called.
-pub fn check_end(rt: &impl Abort, alloc: Global, program: &impl Program, end: End<'_>) {
-    let flushes = u64::from(end.status == 0);
-    for piece in PIECES {
-        let mut out = Pieces::honest(alloc, piece);
-        let mut err = Vec::new(alloc);
-        equal_at(
-            rt,
-            program.run(alloc, &mut out, &mut err),
-            end.status,
-            &end.out,
-        );
-        equal_at(rt, out.kept.as_slice(), end.out.as_bytes(), &end.out);
-        equal_at(rt, err.as_slice(), end.err.as_bytes(), &end.out);
-        let writes = end.out.len().div_ceil(piece) as u64;
-        let counted = [out.writes, out.flushes, out.writes_since_flush];
-        equal_at(rt, counted, [writes, flushes, 0], &end.out);
-    }
 }
 
 /// Fails each write of the text in turn, with each kind of error. After the failure, the program
@@ -108,22 +58,28 @@ pub fn check_writes(
     }
 }
 
-/// Fails only the flush, with each kind of error. The whole text was written before it. An
-/// interrupted flush counts as failed, and so does an error of the writer that says that memory ran
-/// out. A writer that accepts no bytes fails before the flush.
+/// Fails only the flush, with each kind of error. The whole text was written before it, in as few
+/// writes as the pieces of the writer allow. An interrupted flush counts as failed, and so does an
+/// error of the writer that says that memory ran out. A writer that accepts no bytes fails before
+/// the flush.
 pub fn check_flush(rt: &impl Abort, alloc: Global, program: &impl Program, text: &str, failed: u8) {
     for error in ERROR_KINDS {
-        for (piece, kept, flushes) in [
-            (0, "", 0),
-            (1, text, 1),
-            (7, text, 1),
-            (usize::MAX, text, 1),
+        for (piece, kept, writes, flushes) in [
+            (0, "", 1, 0),
+            (1, text, text.len(), 1),
+            (7, text, text.len().div_ceil(7), 1),
+            (usize::MAX, text, 1, 1),
         ] {
             let mut out = Pieces::unflushed(alloc, piece, error);
             let ended = program.run(alloc, &mut out, &mut Vec::new(alloc));
             equal_at(rt, ended, failed, &piece);
             equal_at(rt, out.kept.as_slice(), kept.as_bytes(), &piece);
-            equal_at(rt, out.flushes, flushes, &piece);
+            equal_at(
+                rt,
+                [out.writes, out.flushes],
+                [writes as u64, flushes],
+                &piece,
+            );
         }
     }
 }

@@ -12,8 +12,6 @@ pub struct Pieces {
     pub kept: Vec<u8>,
     pub writes: u64,
     pub flushes: u64,
-    // The number of writes since the last flush.
-    pub writes_since_flush: u64,
     piece: usize,
     failing: u64,
     error: ErrorKind,
@@ -34,7 +32,6 @@ impl Pieces {
             kept: Vec::new(alloc),
             writes: 0,
             flushes: 0,
-            writes_since_flush: 0,
             piece,
             failing,
             error,
@@ -54,7 +51,6 @@ impl Write for Pieces {
     fn write(&mut self, buf: &[u8]) -> io::Result<usize> {
         let write = self.writes;
         self.writes = write.wrapping_add(1);
-        self.writes_since_flush = self.writes_since_flush.wrapping_add(1);
         let count = self.piece.min(buf.len());
         if write == self.failing || self.kept.extend_from_slice(&buf[..count]).is_err() {
             return Err(io::Error::from(self.error));
@@ -64,7 +60,6 @@ impl Write for Pieces {
 
     fn flush(&mut self) -> io::Result<()> {
         self.flushes = self.flushes.wrapping_add(1);
-        self.writes_since_flush = 0;
         if self.can_flush {
             Ok(())
         } else {
