@@ -17,13 +17,31 @@ takes_ours() {
 }
 
 # The tests of a client pass, which takes the package of this folder by a patch alone: client NAME-VERSION CRATE [WORD].
-# Only the tests whose names contain the word run.
+# Only the tests whose names contain the word run. They are in $work/NAME.
 client() {
     local name=${1%-*} words
-    cp -r "$registry/$1"* "$work/$name"
     words=("${debian[@]}" --manifest-path "$work/$name/Cargo.toml" --config "patch.crates-io.$2.path=\"$here/$2\"")
     step takes_ours "$2" "${words[@]}"
     cargo_tests timeout 900 cargo test "${words[@]}" -- "${@:3}"
+}
+
+# Copies a client to $work/NAME, without these test dependencies, which no test of it needs that runs here: copied
+# NAME-VERSION [CRATE..]. Compiling them would take a minute.
+copied() {
+    local name=${1%-*} crate
+    cp -r "$registry/$1"* "$work/$name"
+    for crate in "${@:2}"; do
+        sed -i "/^$crate = /d; /^\[dev-dependencies\.$crate\]\$/,/^\$/d" "$work/$name/Cargo.toml"
+    done
+}
+
+# Removes from im-rc all test modules but that of sorting.
+only_sorting() {
+    local folder=$work/im-rc/src
+    rm -r "$folder/tests"
+    find "$folder" -name '*.rs' ! -name sort.rs -exec sed -i -z 's/\n#\[cfg(test)\]\nmod \(lib_\)\?test {.*/\n/' {} +
+    sed -i -z 's/#\[cfg(test)\]\n\(mod tests;\|#\[macro_use\]\nextern crate pretty_assertions;\)\n//g
+        s/any(test, \(feature = "serde"\))/\1/' "$folder/lib.rs"
 }
 
 # A package of this folder compiles with the oldest compiler, and is linted: shim CRATE.
@@ -52,11 +70,13 @@ fi
 shim fastrand
 cargo_tests cargo test "${debian[@]}" --manifest-path "$here/fastrand/Cargo.toml"
 if packages tempfile-3. doc-comment-0.3.; then
+    copied tempfile-3.
     client tempfile-3. fastrand
 else
     skip 'the tests of tempfile' 'that crate or one of its peers is not there'
 fi
-if packages async-executor-1. async-channel-1. async-io-1. easy-parallel-3. num_cpus-1. once_cell-1.; then
+if packages async-executor-1. async-channel-1. easy-parallel-3. once_cell-1.; then
+    copied async-executor-1. async-io num_cpus
     client async-executor-1. fastrand
 else
     skip 'the tests of async-executor' 'that crate or one of its peers is not there'
@@ -67,9 +87,10 @@ else
     skip 'rand_xoshiro' 'the crate rand_core is not there'
 fi
 # Debian's proptest and quickcheck only suggest what their default features need: the crates from bit-set on.
-if packages im-rc-15. rand_core-0.6. tiny-keccak-2. pretty_assertions-1. proptest-1. rand-0.8. rayon-1. serde-1. \
-    serde_json-1. bit-set-0.5. lazy_static-1. quick-error-2. regex-syntax-0.6. rusty-fork-0.3. tempfile-3. \
+if packages im-rc-15. rand_core-0.6. tiny-keccak-2. proptest-1. rand-0.8. rayon-1. serde-1. bit-set-0.5. lazy_static-1. quick-error-2. regex-syntax-0.6. rusty-fork-0.3. tempfile-3. \
     wait-timeout-0.2. env_logger-0.9. regex-1. aho-corasick-0.7.; then
+    copied im-rc-15. pretty_assertions rand rayon serde serde_json
+    only_sorting
     client im-rc-15. rand_xoshiro sort
 else
     skip 'the tests of im-rc' 'that crate or one of its peers is not there'

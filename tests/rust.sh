@@ -23,12 +23,16 @@ other_targets() {
     read -r -d '' -a pairs <<'END'
 /usr/lib/rustlib/wasm32-unknown-unknown libstd-rust-dev-wasm32
 /usr/lib/rustlib/x86_64-pc-windows-gnu libstd-rust-dev-windows
-x86_64-w64-mingw32-gcc gcc-mingw-w64-x86-64
+x86_64-w64-mingw32-gcc gcc-mingw-w64-x86-64-posix
 /usr/lib/wine/wine64 wine64
 i686-linux-gnu-gcc gcc-i686-linux-gnu
+/usr/i686-linux-gnu/lib/libc.so libc6-dev-i386-cross
 arm-linux-gnueabihf-gcc gcc-arm-linux-gnueabihf
+/usr/arm-linux-gnueabihf/lib/libc.so libc6-dev-armhf-cross
 aarch64-linux-gnu-gcc gcc-aarch64-linux-gnu
+/usr/aarch64-linux-gnu/lib/libc.so libc6-dev-arm64-cross
 s390x-linux-gnu-gcc gcc-s390x-linux-gnu
+/usr/s390x-linux-gnu/lib/libc.so libc6-dev-s390x-cross
 qemu-arm qemu-user
 rust-lld lld
 node nodejs
@@ -138,6 +142,9 @@ patched_from_a_clone() {
         --config "source.empty.directory=\"$registry\"")" = 'WyRand { seed: 0x2a }' ]
 }
 
+# What Debian's packages only recommend, such as graphics for Wine, takes longer to install than the packages themselves.
+echo 'APT::Install-Recommends "false";' >"$work/apt"
+export APT_CONFIG=$work/apt
 if ! available cargo cargo rustc rustc; then
     skip_all 'the tests of the Rust packages' 'there is no cargo or no rustc'
 fi

@@ -551,6 +551,9 @@ if grep -qxF -e "${0##*/} $*" "$BAD"; then
     exit 1
 fi
 case "$*" in *targets/program.rs) install -D /bin/true ../../target/targets/x86_64-unknown-linux-gnu/program ;; esac
+case "$*" in *src/system.rs) printf '#!/bin/sh\necho "test result: ok. 3 passed; 0 failed"\n' >target/system ;; esac
+case "$*" in *src/system.rs) chmod +x target/system ;; esac
+case "$*" in *--doc*--list) echo 'one: test' ;; esac
 case "$*" in *--list*) cd rust/nanorand-proved && find src benches examples tests *.md *.rs LICENSE -type f ;; esac
 echo 'test result: ok. 3 passed; 0 failed'
 """
@@ -558,7 +561,7 @@ echo 'test result: ok. 3 passed; 0 failed'
 
 # How many calls apart those are that end badly in one run: calls that fail, and tests that print nothing. Some calls
 # are made only if those just before them succeed.
-APART, SILENT_APART = 8, 2
+APART, SILENT_APART = 8, 3
 
 
 def crate_tested(room, bad, kind):

@@ -38,13 +38,16 @@ std_of() {
     return 1
 }
 
-# Compiles with the checks of a debug build: compile TARGET ARGUMENT.. Debian's i686 target lacks SSE2, which rustc's
-# own i686 target has. Without SSE2 floats are rounded twice.
+# Compiles with the checks of a debug build: compile TARGET ARGUMENT.. Where vectors are tested, unoptimized code takes
+# too long. Debian's i686 target lacks SSE2, which rustc's own i686 target has. Without SSE2 floats are rounded twice.
 compile() {
-    local processor=()
-    case $1 in i686-*) processor=(-C target-cpu=pentium4) ;; esac
+    local processor=() level=0
+    case $1 in
+    aarch64-* | s390x-*) level=1 ;;
+    i686-*) processor=(-C target-cpu=pentium4) ;;
+    esac
     "$oldest/bin/rustc" --edition 2021 --target "$1" -L "$(std_of "$1")" --out-dir "$out/$1" -D warnings \
-        -C opt-level=1 -C debug-assertions "${processor[@]}" "${@:2}"
+        -C "opt-level=$level" -C debug-assertions "${processor[@]}" "${@:2}"
 }
 
 compile_crate() {

@@ -226,6 +226,20 @@ covered() {
     fi
 }
 
+# The names of the library's doctests, with these arguments of cargo.
+doctests() {
+    cargo test --offline --doc -p nanorand-proved "$@" -- --list | sed -n 's/: test$//p' | grep .
+}
+
+# Runs the doctests of the items that have doctests only with the library's feature std. All others run without it. A
+# name is a file, a dash, the item and a line; rustdoc splits what it is given at the spaces.
+doctests_of_std() {
+    local items
+    doctests >target/doctests && doctests --no-default-features >target/doctests_without || return
+    mapfile -t items < <(grep -vxFf target/doctests_without target/doctests | cut -d ' ' -f 3 | sort -u)
+    cargo test --offline --doc -p nanorand-proved -- "${items[@]}"
+}
+
 # Fails for any code in these folders that no test has run.
 all_covered() {
     if [ -n "$can_count" ]; then
@@ -263,14 +277,17 @@ coverage=$PWD/target/coverage
 # What counts the code that tests run, and whether it is there.
 if counter=$(tools/uncovered.py --tools); then can_count=yes; else can_count=; fi
 rm -rf "$coverage/profiles"
-covered "$coverage" -p nanorand-proved -p nanorand-answers --lib --tests
+# Fewer states and cases for the vectors than below, where they are optimized.
+NANORAND_STATES=1000 covered "$coverage" -p nanorand-proved -p nanorand-answers --lib --tests
 # With some optimization, which keeps the checks of a debug build, three tests of `lots` take 4 instead of 94 seconds.
 # Those of the library would take longer, as most of their time is that of the compiler.
 CARGO_PROFILE_DEV_OPT_LEVEL=1 covered "$coverage" "${programs[@]}" --lib --bins --tests
-covered "$coverage" --release -p nanorand-proved --no-default-features --lib --test chacha_lanes
+# Optimized: the tests of the vectors. Without std, the file with vectors asks the processor itself.
+optimized=(--release -p nanorand-proved --no-default-features --lib)
+NANORAND_STATES=200 covered "$coverage" "${optimized[@]}"
 sources=(rust/{nanorand-program,lots,draw}/src)
-# Without std, the file with vectors asks the processor itself. Its tests compare the answer with that of std, on
-# processors with AVX2, without it, without AVX, and on one whose system does not save the vectors of AVX.
+# Its tests compare the answer with that of std, on processors with AVX2, without it, without AVX, and on one whose
+# system does not save the vectors of AVX.
 if ! grep -qw avx2 /proc/cpuinfo 2>/dev/null; then
     skip 'whether tests run all code of the library' 'this processor has no AVX2'
 elif ! available qemu-x86_64 qemu-user; then
@@ -278,18 +295,23 @@ elif ! available qemu-x86_64 qemu-user; then
 else
     sources+=("$library/src")
     for processor in max max,-avx2 max,-avx max,-xsave Nehalem; do
-        NANORAND_STATES=200 covered "$coverage" --release -p nanorand-proved --no-default-features --lib \
+        NANORAND_STATES=200 covered "$coverage" "${optimized[@]}" \
             --config "target.\"cfg(all())\".runner=[\"qemu-x86_64\", \"-cpu\", \"$processor\"]" -- simd::
     done
 fi
 all_covered "$coverage" "${sources[@]}"
-cargo_tests cargo test --offline --workspace --doc
-# Optimized: all tests but `behaviour` and `calls`, which take minutes to compile, and doctests, which no profile
-# optimizes. tests/packed.sh runs these two without the checks of a debug build. There are a million states for each
-# vector body that this machine has.
-cargo_tests env NANORAND_STATES=1000000 cargo test --offline --release -p nanorand-proved -p nanorand-answers --lib \
-    --test answers --test chacha_lanes --test getrandom --test no_file --test refused --test streams
+# There are a million states for each vector body that this machine has.
+cargo_tests env NANORAND_STATES=1000000 cargo test --offline "${optimized[@]}" --test chacha_lanes
+# With std: all other tests but `behaviour` and `calls`, which take minutes to compile, and doctests, which no profile
+# optimizes. tests/packed.sh runs these two without the checks of a debug build.
+cargo_tests cargo test --offline --release -p nanorand-proved -p nanorand-answers --test answers --test getrandom \
+    --test no_file --test refused --test streams
+# The unit tests of the other file with unsafe code. It compiles alone, but some functions then have no caller.
+step rustc --edition 2021 -O --test --cfg 'feature="std"' -A dead_code --out-dir target "$library/src/system.rs" &&
+    cargo_tests target/system
+cargo_tests cargo test --offline --doc "${programs[@]}"
 cargo_tests cargo test --offline --no-default-features --doc -p nanorand-proved
+cargo_tests doctests_of_std
 step cargo check --offline --no-default-features --all-targets -p nanorand-proved
 cargo_tests cargo test --offline --no-default-features -p lots
 step library_without_std
@@ -319,11 +341,11 @@ done
 step cargo package --offline --allow-dirty --quiet -p nanorand-proved
 step copies_are_equal
 step packs_what_it_should
-# The unit tests are mainly those of the files with unsafe code. The one that is skipped takes 4 GiB.
+# The unit tests of both files with unsafe code, as they were optimized above. The one that is skipped takes 4 GiB.
 if available valgrind valgrind; then
-    cargo_tests cargo test --offline --release -p nanorand-proved --lib \
-        --config 'target."cfg(all())".runner=["valgrind", "--quiet", "--error-exitcode=9"]' -- \
-        --test-threads=1 --skip more_than_4_gibibytes
+    cargo_tests env NANORAND_STATES=200 cargo test --offline "${optimized[@]}" \
+        --config 'target."cfg(all())".runner=["valgrind", "--quiet", "--error-exitcode=9"]' -- --test-threads=1
+    cargo_tests valgrind --quiet --error-exitcode=9 target/system --test-threads=1 --skip more_than_4_gibibytes
 else
     skip 'the unsafe code under valgrind' 'it is not there'
 fi

@@ -1,7 +1,7 @@
 """Tests of `tools/bodies.py` and of the modules that it uses: `python3 -m unittest discover -s tools/tests`.
 
-`Planted` changes one place of the real tree at a time, in memory. `Harmless` does the same with changes that have no
-meaning.
+`PLANTED` are changes of the real tree in one place, which are made in memory, and `HARMLESS` changes that have no
+meaning. Those of a group are made at once.
 """
 
 import contextlib
@@ -389,6 +389,18 @@ class Rules(unittest.TestCase):
             self.assertTrue(row[2].endswith("."), row)
 
 
+def groups(changes):
+    """The changes in groups. Those of a group are in files with different names, as a difference names both sides."""
+    found = []
+    for change in changes:
+        name = Path(change[0]).stem
+        group = next((group for group in found if name not in group), None)
+        if group is None:
+            found.append(group := {})
+        group[name] = change
+    return [list(group.values()) for group in found]
+
+
 class InTree(unittest.TestCase):
     """Shared by the tests that change the real tree in memory."""
 
@@ -405,6 +417,9 @@ class InTree(unittest.TestCase):
         self.assertIn(old, text, f"{name} has no such text any more")
         return {name: text.replace(old, new, 1)}
 
+    def all_changed(self, group):
+        return {name: text for change in group for name, text in self.changed(*change).items()}
+
 
 class Tree(InTree):
     """The sources."""
@@ -416,11 +431,12 @@ class Tree(InTree):
 
     def test_planted_differences_are_found(self):
         self.assertGreaterEqual(len(PLANTED), 80)
-        for name, old, new in PLANTED:
-            with self.subTest(name, old=old, new=new):
-                found = self.differences(self.changed(name, old, new))
-                self.assertTrue(any(name in line for line in found), found)
-                self.assertLess(len(found), 12, found)
+        for group in groups(PLANTED):
+            found = self.differences(self.all_changed(group))
+            self.assertLess(len(found), 12 * len(group), found)
+            for name, old, new in group:
+                with self.subTest(name, old=old, new=new):
+                    self.assertTrue(0 < sum(name in line for line in found) < 12, found)
 
     def test_planted_differences_are_of_all_kinds(self):
         crates = ("nanorand", "nanorand_core", "nanorand_replay", "lots_core", "lots_record", "draw_core")
@@ -428,9 +444,8 @@ class Tree(InTree):
             self.assertGreater(sum(name.startswith(folder) for name, _, _ in PLANTED), 2, folder)
 
     def test_harmless_changes_are_not_found(self):
-        for name, old, new in HARMLESS:
-            with self.subTest(name, old=old, new=new):
-                self.assertEqual(self.differences(self.changed(name, old, new)), [])
+        for group in groups(HARMLESS):
+            self.assertEqual(self.differences(self.all_changed(group)), [])
 
     def test_a_message_names_both_places(self):
         change = self.changed("rust/nanorand-proved/src/values/word.rs", "low >= size ||", "low > size ||")

@@ -741,7 +741,7 @@ mod tests {
 
     mod blocks;
 
-    const CASES: usize = if cfg!(miri) { 500 } else { 250_000 };
+    use blocks::number_of_states;
 
     // The number of groups of eight blocks that were computed on vectors of eight words.
     static GROUPS: AtomicUsize = AtomicUsize::new(0);
@@ -777,10 +777,11 @@ mod tests {
         }
     }
 
-    // Calls `check` with the words of each case.
+    // Calls `check` with the words of each case. There are 25 cases for each state, and at most
+    // 250,000, which is their number if the environment sets no number of states.
     fn for_cases(check: impl Fn([u32; 4], [u32; 4])) {
         let mut words = Words(0x9e37_79b9_7f4a_7c15);
-        for _ in 0..CASES {
+        for _ in 0..250_000.min(25 * number_of_states()) {
             check(words.four(), words.four());
         }
     }

@@ -15,7 +15,7 @@ use nanorand_proved::{Rng, WyRand};
 use own::{Own, State};
 use pair::{Buffered, Calls, Pair};
 
-const SEEDS: u64 = 36;
+const SEEDS: u64 = 48;
 const CALLS: usize = 6_000;
 
 /// Compares a generator, alone by the first calls and in a buffer by the others.
@@ -112,9 +112,7 @@ fn three_million_calls() {
             of_all_types WyRand::new_seed(seed);
             of_few_types Pcg64::new_seed(seed);
             of_few_types ChaCha::<6>::new_key(key, nonce);
-            of_few_types ChaCha::<8>::new_key(key, nonce);
-            of_few_types ChaCha::<12>::new_key(key, nonce);
-            of_all_types ChaCha::<20>::new_key(key, nonce);
+            of_few_types ChaCha::<20>::new_key(key, nonce);
         );
         let own = Own { seed, stuck: 0 };
         let pair = Pair {

@@ -110,8 +110,10 @@ fn different_numbers_give_different_seeds() {
 #[test]
 fn neighbours_share_no_more_than_half_of_their_bits() {
     let agreeing = |first: &dyn Fn(u64) -> u64| -> u64 {
-        (0..10_000)
-            .map(|number| u64::from((first(number) ^ !first(number + 1)).count_ones()))
+        let words: Vec<u64> = (0..=10_000).map(first).collect();
+        let pairs = words.windows(2);
+        pairs
+            .map(|pair| u64::from((pair[0] ^ !pair[1]).count_ones()))
             .sum()
     };
     let firsts: [&dyn Fn(u64) -> u64; 5] = [

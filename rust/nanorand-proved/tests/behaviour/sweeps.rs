@@ -251,7 +251,7 @@ fn one_item_is_lent() {
     let mut expected = items.clone();
     for size in (1..=1100).chain(sizes()) {
         let (items, expected) = (&mut items[..size], &mut expected[..size]);
-        for _ in 0..8 {
+        for _ in 0..2 {
             for rejected in [0, number(&mut rng, 129), 128] {
                 writes_one(rejected, rng.generate(), rng.generate(), items, expected);
                 assert!(items == expected, "{size}");

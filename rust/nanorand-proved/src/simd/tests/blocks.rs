@@ -20,7 +20,7 @@ const EXTREMES: [u32; 6] = [0, 1, 0x7fff_ffff, 0x8000_0000, u32::MAX - 1, u32::M
 const STATES: &str = if cfg!(miri) { "20" } else { "10000" };
 const CORNERS: usize = if cfg!(miri) { 20 } else { usize::MAX };
 
-fn number_of_states() -> usize {
+pub(super) fn number_of_states() -> usize {
     let asked = std::env::var("NANORAND_STATES");
     let states = asked.as_deref().unwrap_or(STATES);
     states.parse().expect("a number of states")
@@ -164,9 +164,7 @@ fn corner_states() {
     for state in corners().take(CORNERS) {
         check_with::<0>(lanes, state);
         check_with::<8>(lanes, state);
-        check_with::<12>(lanes, state);
         check_with::<20>(lanes, state);
-        check_with::<254>(lanes, state);
     }
 }
 
@@ -175,10 +173,10 @@ fn random_states() {
     let (lanes, mut words) = (eight_lanes(), Words(0x2545_f491_4f6c_dd1d));
     for case in 0..number_of_states() {
         let state = random_state(&mut words);
-        match case % 3 {
-            0 => check_with::<8>(lanes, state),
-            1 => check_with::<12>(lanes, state),
-            _ => check_with::<20>(lanes, state),
+        if case % 2 == 0 {
+            check_with::<8>(lanes, state);
+        } else {
+            check_with::<20>(lanes, state);
         }
     }
 }
