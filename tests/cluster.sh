@@ -2,9 +2,9 @@
 # Tests examples/cluster with the library that c/install builds: tests/cluster.sh. The last line is N passed, M failed.
 #
 # A loop in C, MPI with 1 and 4 processes and a job array must print the committed sums. Dask with 1 and 4 workers, and
-# the loop over one generator in Python, must print the sums of the first 40 tasks; all tasks would take minutes. Killing
-# a worker must not change the sums, and a part past the end of the period must be an error. The picture of the committed
-# sums is the committed one. The programs of the README's section "Your own simulation" run as it says.
+# the loop over one generator in Python, must print the sums of the first 40 tasks; all tasks would take minutes.
+# Killing a worker must not change the sums, and a part past the end of the period must be an error. The picture of the
+# committed sums is the committed one. The programs of the README's section "Your own simulation" run as it says.
 # shellcheck source=tests/lib.sh
 source "$(dirname "${BASH_SOURCE[0]}")/lib.sh"
 examples=$PWD/examples/cluster
