@@ -1,6 +1,7 @@
-"""Tests percolation.py: its parts, its lattices, and Dask when a worker is killed. tests/cluster.sh runs it.
+"""Tests percolation.py: its parts, its lattices, its picture, and Dask when a worker is killed.
 
-Its working folder is the folder of the C program `job`, which has to compute the same sums.
+tests/cluster.sh runs it in the folder of the C program `job`, which has to compute the same sums, and of the picture
+first.svg, which percolation.py has drawn of the first 40 tasks.
 """
 
 import heapq
@@ -15,8 +16,11 @@ import tempfile
 import time
 import unittest
 from pathlib import Path
+from unittest import mock
 
+import matplotlib
 import percolation
+import picture
 import psutil
 from dask.distributed import Client
 from nanorand import PastPeriod, Pcg64
@@ -32,9 +36,14 @@ def table_by_job(first, count):
     return subprocess.run(["./job", str(first), str(count)], check=True, stdout=subprocess.PIPE, text=True).stdout
 
 
+def sums_in(table):
+    """The sums for each side length in a table."""
+    return [tuple(map(int, line.split()[1:4])) for line in table.splitlines()[1:]]
+
+
 def by_job(first, count):
     """The sums of the tasks, computed by the C program."""
-    return [tuple(map(int, line.split()[1:4])) for line in table_by_job(first, count).splitlines()[1:]]
+    return sums_in(table_by_job(first, count))
 
 
 def percent(bar):
@@ -142,6 +151,29 @@ class Estimate(unittest.TestCase):
         self.assertLess(abs(mean - 0.592746), 2 * error)
 
 
+class Arguments(unittest.TestCase):
+    def test_all_tasks_by_four_workers(self):
+        with mock.patch.object(sys, "argv", ["percolation.py"]):
+            given = percolation.arguments()
+        self.assertEqual((given.tasks, given.workers, percolation.TASKS), (1000, 4, 1000))
+
+
+class Pictures(unittest.TestCase):
+    def test_the_committed_one(self):
+        """It shows the committed sums, if this version of Matplotlib drew it."""
+        committed = (HERE.parents[1] / "docs/percolation.svg").read_bytes()
+        version = f"Matplotlib v{matplotlib.__version__}"
+        if f"{version},".encode() not in committed:
+            self.skipTest(f"{version} did not draw the picture of the estimates")
+        picture.draw(sums_in(TABLE), "all.svg")
+        self.assertEqual(Path("all.svg").read_bytes(), committed)
+
+    def test_the_one_of_some_tasks(self):
+        """The option --picture draws the sums that are printed."""
+        picture.draw(by_job(0, 40), "wanted.svg")
+        self.assertEqual(Path("first.svg").read_bytes(), Path("wanted.svg").read_bytes())
+
+
 class JobArray(unittest.TestCase):
     def test_a_failed_job_fails_the_array(self):
         with tempfile.TemporaryDirectory() as room:
@@ -186,7 +218,7 @@ class LocalWorkers(unittest.TestCase):
 class KilledWorker(unittest.TestCase):
     """Dask with a scheduler and two workers. One of them is killed while it has results and more tasks to run."""
 
-    TASKS = 200
+    TASKS = 100
 
     def start(self, *arguments, **options):
         process = subprocess.Popen([sys.executable, *arguments], text=True, **options)

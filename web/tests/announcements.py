@@ -187,12 +187,13 @@ def some(rng: random.Random) -> Announcement:
 
 
 def texts(counts: Counts, page: Page) -> None:
-    """Files and pasted texts are read exactly if other code reads them."""
+    """Files and pasted texts are read exactly if other code reads them. Each browser has changes of its own."""
     counts.same("the known text", EXAMPLE.text(), KNOWN)
-    rng = random.Random(4)
-    good = [EXAMPLE, *(some(rng) for _ in range(300))]
+    rng = random.Random(4 + page.number)
+    good = [EXAMPLE, *(some(rng) for _ in range(300 // page.browsers))]
     files = [one.text().encode() for one in good]
-    files += [mutated(rng, KNOWN if rng.random() < 0.5 else rng.choice(good).text()).encode() for _ in range(2000)]
+    files += [mutated(rng, KNOWN if rng.random() < 0.5 else rng.choice(good).text()).encode()
+              for _ in range(2000 // page.browsers)]
     files += [KNOWN.replace("\n", "\r\n").encode(), b"\xef\xbb\xbf" + KNOWN.encode(), KNOWN[:-1].encode(), b"",
               KNOWN.encode() + b"\n", KNOWN.encode() + b" ", b"\n" + KNOWN.encode(), KNOWN.encode() * 2,
               KNOWN.encode("utf-16"), KNOWN.encode().replace(b"school", b"sch\xffl")]
@@ -230,11 +231,12 @@ def example_record(program: str, module: bytes, announcement: str = KNOWN, drawn
 
 
 def pairs_mutated(counts: Counts, page: Page, program: str, module: bytes) -> None:
-    """2,000 records and announcements of which one or both were changed: they agree only if nothing was."""
-    rng = random.Random(5)
+    """2,000 records and announcements of which one or both were changed: they agree only if nothing was. Each browser
+    has its own."""
+    rng = random.Random(5 + page.number)
     record = example_record(program, module)
     pairs: List[Tuple[str, str]] = [(record, KNOWN)]
-    for number in range(2000):
+    for number in range(2000 // page.browsers):
         pairs.append((mutated(rng, record) if number % 3 != 0 else record,
                       mutated(rng, KNOWN) if number % 3 != 1 else KNOWN))
     agreed = 0
@@ -246,7 +248,7 @@ def pairs_mutated(counts: Counts, page: Page, program: str, module: bytes) -> No
         agreed += agrees
         counts.case("a pair of a record and an announcement",
                     "" if right else f"{outcome}, {with_it}: {findings}, {text!r}, {announced!r}")
-    counts.case("some pairs agree", "" if 1 < agreed < 1000 else str(agreed))
+    counts.case("some pairs agree", "" if 1 < agreed < 1000 // page.browsers else str(agreed))
 
 
 def same_record(text: str, record: str) -> bool:

@@ -416,7 +416,7 @@ def by_chance(counts: Counts, page: Page) -> None:
 
 def stale(counts: Counts, page: Page) -> None:
     """After a change of the list or of a field, the saved announcement is marked until the change is undone."""
-    for name, value in FIELDS.items():
+    for name, value in page.share(FIELDS.items()):
         begun(page)
         saved(page)
         page.put(**{name: "2" if value.isdigit() else f"{value}."})

@@ -12,7 +12,7 @@ from records import FORMAT1, FORMAT2, OLD_TITLE, TITLE, Layout, old_record, with
 NAMES = ["Zoë O'Neil-Fisher", "Ada B. Ito", "Finn A1", "Chidi Ivo", "Ona Aa 7", "Max Co-op", "Sofia Ek", "Noa' Ross"]
 LIST = "".join(f"{name}\n" for name in NAMES)
 SEED = "Zoë's first throw: 4-1-6 3 1"
-NUMBER = 1000
+NUMBER = 400
 # A colon, and what looks like one.
 COLONS = ":\u02d0\u02f8\u0589\u05c3\u0703\u0704\u16ec\u1803\u1809\u205a\u2236\ua4fd\ua789\ufe13\ufe30\ufe55\uff1a"
 # Letters that mutations put into a record.

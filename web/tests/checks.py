@@ -154,9 +154,6 @@ def differences(counts: Counts, page: Page, layout: Layout, record: str) -> None
         outcome(counts, page, "13 drawn of 13", with_value(layout, "\n".join(more), "entrants", 13), "differs",
                 "Cannot draw 13: the list has only 12 entrants.")
     other_lists(counts, page, record)
-    other_line_ends(counts, page)
-    page.load()
-    page.paste(LIST)
 
 
 def other_lists(counts: Counts, page: Page, record: str) -> None:
@@ -173,7 +170,7 @@ def other_line_ends(counts: Counts, page: Page) -> None:
     """Of lists that differ only in line ends and in a byte order mark, the page says so, whichever was published."""
     lists = {f"{name}, {end!r}, {mark!r}": (mark + LIST[:-1].replace("\n", feed) + end).encode()
              for name, feed in (("LF", "\n"), ("CRLF", "\r\n")) for end in ("", feed) for mark in ("", "\ufeff")}
-    for name, published in lists.items():
+    for name, published in page.share(lists.items()):
         page.open_file(published)
         page.fill("seed", "4")
         record = page.draw()["record"]
@@ -391,6 +388,9 @@ def run(counts: Counts, page: Page, program: str, digests: Dict[int, str]) -> No
         long_records(counts, page, layout)
         of_no_entrants(counts, page, layout, digests[64])
     counts.place = place
+    other_line_ends(counts, page)
+    page.load()
+    page.paste(LIST)
     versions(counts, page, old_record(record), digests)
     seeds_survive(counts, page, program)
     seed_of_lines(counts, page, program, digests[64])

@@ -152,7 +152,7 @@ def headings(counts: Counts, page: Page) -> None:
         shown = changed(page, "Remove line 1")
         counts.same(f"{heading!r}: removed", shown["digest"], sha256(SMALL.encode()))
         counts.same(f"{heading!r}: drawn", len(page.draw(keep=False)["drawn"]), 3)
-    for heading in NO_HEADINGS:
+    for heading in page.share(NO_HEADINGS):
         asked(counts, page, f"no heading {heading!r}", f"{heading}\n{SMALL}".encode(), [])
     for text, is_asked in (("Kennung\n17\n18\n", True), ("Wer\na@b.c\nd@e.f\n", True), ("17\n18\n19\n", False),
                            ("Ada\n17\nBob\n", False), ("Ada\n17\n", False), ("Name\n", False)):

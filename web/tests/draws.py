@@ -139,7 +139,8 @@ def long_entrants(counts: Counts, page: Page, program: str, module: str) -> None
 def long_lists(counts: Counts, page: Page, program: str, module: str) -> None:
     page.load()
     watch_progress(page)
-    for size, count in (*page.share(((100_000, "all"), (100_000, "1000"), (100_000, "1001"))), (1_000_000, "all")):
+    for size, count in (*page.share(((100_000, "all"), (100_000, "1000"), (100_000, "1001"))),
+                        *page.share(((300_000, "all"), (1_000_000, "all")))):
         data = b"".join(b"entrant %d\n" % number for number in range(size))
         page.open_file(data)
         page.fill(f"a list of {size}", count)

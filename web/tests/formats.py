@@ -44,6 +44,8 @@ for (let code = number; code < 0x110000; code += step) {
 const read = texts.map((text) => unquoted(text) && Array.from(unquoted(text)));
 return [escaped, lists.map((list) => quoted(Uint8Array.from(list))), read];
 """
+# How many random bytes are written and read.
+BYTES = 1000
 # Bytes that are not UTF-8, or nearly so, and texts with marks, backslashes, spaces and joined emoji.
 ODD = [b"", b" ", b"  ", b'"', b'""', b'" "', b"\\", b"\\\\", b"\\x41", b"\\x5c", b" x ", b"a  b", b"1: x",
        b"and 1 more", END.encode(),
@@ -82,9 +84,10 @@ def is_right(text: str) -> bool:
 
 def values(counts: Counts, page: Page) -> None:
     """The page writes any bytes as other code does, and reads nothing but what it writes. Each browser has its share of
-    all characters."""
-    rng = random.Random(2)
-    data = [*ODD, *(letter.encode() for letter in edges()), *(some_bytes(rng) for _ in range(3000))]
+    all characters, and bytes of its own."""
+    rng = random.Random(2 + page.number)
+    random_ones = (some_bytes(rng) for _ in range(BYTES // page.browsers))
+    data = [*ODD, *(letter.encode() for letter in edges()), *random_ones]
     texts = ["", '"', "x", *(edited(rng, quoted(one)) for one in data for _ in range(3))]
     code = '"use strict";\n' + build.joined("quoted", set()) + SHOW_ALL
     escaped, written, read = page.browser.run(code, [list(one) for one in data], texts, page.number, page.browsers)

@@ -36,6 +36,7 @@ def run(counts: Counts, page: Page) -> None:
     long = page.share(((1, 1), (43, 1), (44, 1), (50, 1), (200, 1), (44, 10**6)))
     most = f"const MOST_PLACES = {MOST_PLACES};\n"
     for name, found, wanted in page.browser.run(code + most + tests, page.share(all_unseen()), long,
-                                                page.share(range(MOST_PLACES))):
+                                                page.share(range(MOST_PLACES)), page.number, page.browsers,
+                                                page.share((3_000_000, 9_000_000))):
         counts.same(name, found, wanted)
     names(counts, page)

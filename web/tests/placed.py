@@ -213,12 +213,13 @@ def three_at_once(counts: Counts, page: Page, texts: Dict[str, bytes]) -> None:
     """Three files opened one after the other, read in any order. A list that was typed before comes back as it was."""
     orders = (("list", "announcement", "record"), ("announcement", "list", "record"),
               ("record", "announcement", "list"), ("record", "announcement", "record"))
+    page.load()
+    page.tab("check")
+    page.browser.run(WAIT)
     for kinds, waits in page.share(product(orders, permutations((0, 300, 600)))):
-        page.load()
         page.paste(OTHER_LIST.decode())
         page.facts()
-        page.tab("check")
-        page.browser.run(WAIT)
+        page.put(check_text="", check_announcement="")
         for kind, wait in zip(kinds, waits):
             drop(page, "list-step", f"{wait}.txt", texts[kind])
         wanted = {"list": sha256(LIST if "list" in kinds else OTHER_LIST).encode(), "record": texts["record"],

@@ -50,7 +50,7 @@ def grouped(number: int) -> str:
 
 def counts_of_draws(counts: Counts, page: Page) -> None:
     for entrants, drawn in ((1, 0), (1, 1), (2, 1), (12, 12), (999, 999), (1000, 1000), (1001, 1001), (1500, 1200),
-                            (1500, 3), (123456, 12345)):
+                            (1500, 3), (12345, 2345)):
         page.paste("".join(f"{number}\n" for number in range(entrants)))
         page.fill("seed", str(drawn))
         shown = page.draw()

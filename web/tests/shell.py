@@ -13,7 +13,7 @@ from formats import ODD, edges, is_text
 from page import Page
 from records import record_of, without_module
 
-PLANS = 40
+PLANS = 24
 RECORDS = 40
 AGREES = b"the record agrees with the list, and names the announcement\n"
 # A quotation mark, a backslash, what a shell would change, letters that look like others, joined emoji, a long text.
