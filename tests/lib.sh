@@ -16,8 +16,8 @@ failed=0
 # incremental compilation and many units for each crate would only take time.
 export CARGO_PROFILE_DEV_DEBUG=0 CARGO_PROFILE_TEST_DEBUG=0 CARGO_PROFILE_DEV_STRIP=debuginfo
 export CARGO_INCREMENTAL=0 CARGO_PROFILE_DEV_CODEGEN_UNITS=1
-# The programs of doctests are linked with std as a shared library, which takes less time, and without debug information.
-export RUSTDOCFLAGS='-C strip=debuginfo -C prefer-dynamic'
+# The programs of doctests are linked without the debug information of std.
+export RUSTDOCFLAGS='-C strip=debuginfo'
 # The bin folder of the oldest compiler that the packages support.
 # shellcheck disable=SC2034
 oldest_bin=${NANORAND_OLDEST:-/usr}/bin

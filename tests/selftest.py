@@ -28,8 +28,8 @@ ROOT = Path(__file__).resolve().parent.parent
 # Files and folders in tests/ that are not parts: the parts call or read them.
 NO_PARTS = {
     "lib.sh", "program.sh", "build.sh", "workspace.sh", "build_script.sh", "packed.sh", "targets.sh", "drop_in.sh",
-    "targets.py", "c_crate.sh", "second_opinion.py", "compare_records.py", "records.py", "nanorand-0.7.0.txt", "answers",
-    "against_c", "clients",
+    "targets.py", "c_crate.sh", "second_opinion.py", "compare_records.py", "records.py", "nanorand-0.7.0.txt", "draw.txt",
+    "answers", "against_c", "clients",
 }
 
 # How a part may end: its last lines, its status, and the counts that the sum has to have for it.
