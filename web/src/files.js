@@ -32,6 +32,20 @@ function takeNow() {
   };
 }
 
+/** Resolves once the kinds of all files that were opened so far are known. So the list that is opened last stays. */
+let opening = Promise.resolve();
+
+/** Opens files once those that were opened before have been. @param {() => void|Promise<void>} open */
+function inTurn(open) {
+  opening = opening.then(open, open);
+}
+
+/** @param {unknown} error */
+function refuseFiles(error) {
+  const unread = new Refusal(tabShown() === "check" ? "record cannot be read" : "list cannot be read");
+  refuse(error instanceof Refusal ? error : unread);
+}
+
 /** @param {File} file @param {import("./kinds.js").Kind} kind @param {Take} take */
 async function openAs(file, kind, take) {
   if (kind === "list") openFile(file, take);
@@ -56,10 +70,9 @@ async function openTogether(files, take) {
     const starts = await Promise.all(files.map((file) => file.slice(0, START).arrayBuffer()));
     const kinds = starts.map((start) => kindOfFile(new Uint8Array(start)));
     refuseTwo(files, kinds);
-    await Promise.all(files.map((file, place) => openAs(file, kinds[place], take)));
+    for (const [place, file] of files.entries()) openAs(file, kinds[place], take).catch(refuseFiles);
   } catch (error) {
-    const unread = new Refusal(tabShown() === "check" ? "record cannot be read" : "list cannot be read");
-    refuse(error instanceof Refusal ? error : unread);
+    refuseFiles(error);
   }
 }
 
@@ -73,13 +86,15 @@ export function filesDropped(event) {
   const take = takeNow();
   const isAlone = files.length === 1;
   if (isAlone && ["check-text", "check-announcement"].includes(target.id)) readForField(files[0], target.id, take);
-  else if (isAlone && !part("check-step").contains(target)) openFile(files[0], take);
-  else openTogether(files, take);
+  else if (isAlone && !part("check-step").contains(target)) inTurn(() => openFile(files[0], take));
+  else inTurn(() => openTogether(files, take));
 }
 
 /** Opens the chosen file. The field forgets it, so that the same file can be opened again once it has changed. */
 export function fileChosen() {
   clearRefusals("file");
-  openFile(part("list-file").files[0], takeNow());
+  const [file] = part("list-file").files;
+  const take = takeNow();
+  inTurn(() => openFile(file, take));
   part("list-file").value = "";
 }

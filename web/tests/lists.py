@@ -33,7 +33,7 @@ setInterval(() => {
 }, 20);
 """
 # For each number of lines, the seconds that the list and a draw of all may take, and a factor for slow machines.
-SECONDS = {100_000: 1.0, 300_000: 3.0, 1_000_000: 5.0}
+SECONDS = {100_000: 1.0, 1_000_000: 5.0}
 SLOWNESS = 3
 NFC, NFD = "Zo\u00eb", "Zoe\u0308"
 ONE = "1 of the lines equals an earlier line"
@@ -130,10 +130,8 @@ JOINERS = {"\u200c": "[U+200C zero width non-joiner]", "\u200d": "[U+200D zero w
 
 
 def long_pastes(counts: Counts, page: Page) -> None:
-    """A paste and a draw of all finish within the limits, and the page stays responsive. One browser pastes a million
-    lines; the other one opens a file with as many."""
-    for size in (100_000, *page.share((1_000_000, 300_000))):
-        most = SECONDS[size]
+    """A paste and a draw of all finish within the limits, and the page stays responsive."""
+    for size, most in SECONDS.items():
         text = "".join(f"entrant {number}\n" for number in range(size))
         page.load()
         page.browser.run(WATCH)

@@ -46,6 +46,10 @@ Blob.prototype.arrayBuffer = async function () {
   if (name.includes("lost")) throw new Error("lost");
   return window.read.call(this);
 };
+window.cut = Blob.prototype.slice;
+Blob.prototype.slice = function (...range) {
+  return Object.assign(window.cut.apply(this, range), { name: this.name });
+};
 """
 
 
