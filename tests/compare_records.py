@@ -11,9 +11,9 @@ For example, tests/compare_records.py target/release/lots. It compares:
 - 100 records of pseudorandom draws with odd seeds, entrants and announcements: `lots --record` writes the bytes that
   `record` returns, and `lots --check` accepts them, also with a line of a module. Both refuse an announcement that is
   not that of the draw.
-- 500 changes of records, lists and announcements: `lots --check` has status 0 if and only if `is_record` accepts the
+- 2,000 changes of records, lists and announcements: `lots --check` has status 0 if and only if `is_record` accepts the
   text.
-- 500 changes of announcements, and of their lists and numbers, with records that name what was changed: the same, and
+- 2,000 changes of announcements, and of their lists and numbers, with records that name what was changed: the same, and
   `lots --record` has status 0 if and only if `is_announcement` accepts the text.
 
 The last line is N passed, M failed.
@@ -30,7 +30,7 @@ from records import announcement as made_announcement
 from records import entrants_of, hidden, is_announcement, is_record, record
 from second_opinion import a_count, a_seed, result, some_entrants
 
-ANNOUNCEMENTS, RECORDS, CHANGES = 100, 100, 500
+ANNOUNCEMENTS, RECORDS, CHANGES = 100, 100, 2000
 AGREES = b"the record agrees with the list; no announcement was compared\n"
 NAMES = b"the record agrees with the list, and names the announcement\n"
 FAILURES = {

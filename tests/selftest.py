@@ -810,7 +810,7 @@ def compared_often(counts, room):
         called.append(os.readlink(Path(cwd, "lots")))
         return mock.Mock(returncode=7, stdout="")
 
-    sizes = {"ANNOUNCEMENTS": 100, "RECORDS": 100, "CHANGES": 500}
+    sizes = {"ANNOUNCEMENTS": 100, "RECORDS": 100, "CHANGES": 2000}
     counts.same("the numbers of records", {name: getattr(compare_records, name) for name in sizes}, sizes)
     page = second_opinion.PAGE.read_text(encoding="utf-8")
     for script, name, times, *given in [
