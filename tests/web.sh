@@ -24,6 +24,7 @@ else
     skip 'the page in Firefox' 'there is no firefox-esr'
 fi
 [ ${#browsers[@]} -gt 0 ] || finish
+available pdftotext poppler-utils || skip 'what the page prints on paper' 'there is no pdftotext'
 # These compile the module for 32-bit memory.
 available /usr/bin/rustc rustc "/usr/lib/rustlib/wasm32-unknown-unknown/lib/libstd-*.rlib" libstd-rust-dev-wasm32
 
