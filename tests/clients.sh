@@ -88,8 +88,8 @@ else
 fi
 # Debian's proptest and quickcheck only suggest what their default features need: the crates from bit-set on.
 if packages im-rc-15. rand_core-0.6. tiny-keccak-2. proptest-1. rand-0.8. rayon-1. serde-1. bit-set-0.5. \
-    lazy_static-1. quick-error-2. regex-syntax-0.6. rusty-fork-0.3. tempfile-3. wait-timeout-0.2. env_logger-0.9. \
-    regex-1. aho-corasick-0.7.; then
+    lazy_static-1. quick-error-2. regex-syntax-0.6. rusty-fork-0.3. tempfile-3. wait-timeout-0.2. quickcheck-1. \
+    env_logger-0.9. regex-1. aho-corasick-0.7.; then
     copied im-rc-15. pretty_assertions rand rayon serde serde_json
     only_sorting
     client im-rc-15. rand_xoshiro sort
