@@ -124,9 +124,9 @@ added_from_a_clone() {
             cp "$work/clone/rust/nanorand-proved/examples/die.rs" src/main.rs && cargo run --quiet)
 }
 
-# The programs are installed from a clone, as a user does from the repository's address.
+# The programs are installed from a clone, as a user does from the repository's address, but not optimized.
 installed_from_a_clone() {
-    cargo install --quiet --root "$work/installed" --git "file://$work/clone" lots draw &&
+    CARGO_PROFILE_RELEASE_OPT_LEVEL=0 CARGO_PROFILE_RELEASE_LTO=off cargo install --quiet --root "$work/installed" --git "file://$work/clone" lots draw &&
         [ "$(printf 'a\nb\n' | "$work/installed/bin/lots" seed all)" = $'b\na' ] &&
         [ "$("$work/installed/bin/draw" wyrand d29b42879be2895f plain 0 u64)" = 16646288086500911322 ]
 }
