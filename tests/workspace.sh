@@ -302,9 +302,11 @@ fi
 all_covered "$coverage" "${sources[@]}"
 # There are a million states for each vector body that this machine has.
 cargo_tests env NANORAND_STATES=1000000 cargo test --offline "${optimized[@]}" --test chacha_lanes
-# The unit tests of the other file with unsafe code. It compiles alone, but some functions then have no caller. All other
-# code is tested optimized as the library for C, by the table of answers and by Python, and as the programs; and by
-# tests/packed.sh without the checks of a debug build.
+# With std: all other tests but `behaviour` and `calls`, which take minutes to compile, and doctests, which no profile
+# optimizes. tests/packed.sh runs these two without the checks of a debug build.
+cargo_tests cargo test --offline --release -p nanorand-proved -p nanorand-answers --test answers --test getrandom \
+    --test no_file --test refused --test streams
+# The unit tests of the other file with unsafe code. It compiles alone, but some functions then have no caller.
 step rustc --edition 2021 -O --test --cfg 'feature="std"' -A dead_code --out-dir target "$library/src/system.rs" &&
     cargo_tests target/system
 cargo_tests cargo test --offline --doc "${programs[@]}"

@@ -1,5 +1,5 @@
-//! Calls that fail after 128 rejected words, which no seed of a generator is known to lead to. The
-//! other answers are those of the program `draw`.
+//! Calls that fail after 128 rejected words, which no seed of a generator is known to lead to. All
+//! other answers are tested in Rust, and those that `draw` can ask for also by `tests/draw.sh`.
 
 use crate::comparing::equal;
 use nanorand::replay::{Answer, Call, Kind, Span, replay};
